@@ -1,0 +1,124 @@
+-- What the searches find: a witness or a refutation, lowest number first.
+use mathlib.Core.Path.{_≡_, refl, sym, _∙_, ap}
+use mathlib.Core.Bool.{Bool, true, false}
+use mathlib.Core.Logic.{_⊎_, inl, inr}
+use Prim.Native.Nat.{ℕ, zero, suc, _+_, _≤_, _<_, zero-le, suc-le-suc}
+use native.Mathlib.Nat.{le-step, lt-suc-self, not-suc-le-zero}
+use native.Mathlib.Omega.{arith}
+use Rattle.finite.specs.Truth.{_&_, _or_, non, same, below}
+use Rattle.finite.specs.Sum.{sumTo, count}
+use Rattle.finite.specs.Search.{any, all, least}
+use Rattle.finite.proofs.Truth.{no-tf, bcase, iff, refute, both, and-l, and-r, or-l, or-r, or-case, same-eq, same-ne, below-lt, below-le}
+use Rattle.finite.proofs.Sum.{count-member}
+
+-- some number below n passes p
+pub record Some (n : ℕ) (p : ℕ → Bool) : Type 0 where
+  pub at : ℕ
+  pub low : at < n
+  pub fact : p at ≡ true
+
+-- a number below n that passes p, or the fact that none does
+pub find : (n : ℕ) (p : ℕ → Bool) → Some n p ⊎ ((v : ℕ) → v < n → p v ≡ false)
+find zero p = inr (λ v l. absurd (not-suc-le-zero l))
+find (suc n) p = go (find n p)
+  where
+    go : Some n p ⊎ ((v : ℕ) → v < n → p v ≡ false) → Some (suc n) p ⊎ ((v : ℕ) → v < suc n → p v ≡ false)
+    go (inl s) = inl (record { at = s .at; low = le-step (s .low); fact = s .fact })
+    go (inr h) =
+        bcase (p n) (λ t. inl (record { at = n; low = lt-suc-self n; fact = t }))
+        (λ f. inr (λ v l. bcase (same v n) (λ e. ap p (same-eq v n e) ∙ f) (λ e. let m = same-ne v n e in h v (omega arith))))
+
+pub any-more : (n : ℕ) (p : ℕ → Bool) → any (suc n) p ≡ p n or any n p
+unfolding any _or_
+any-more n p = bcase (p n) (λ t. rw (t, any)) (λ t. rw (t, any))
+
+pub some-any : (n : ℕ) (p : ℕ → Bool) (v : ℕ) → v < n → p v ≡ true → any n p ≡ true
+some-any zero p v l h = absurd (not-suc-le-zero l)
+some-any (suc n) p v l h =
+    any-more n p
+    ∙ bcase (same v n) (λ e. or-l _ (sym (ap p (same-eq v n e)) ∙ h))
+    (λ e. let m = same-ne v n e in or-r _ (some-any n p v (omega arith) h))
+
+pub any-some : (n : ℕ) (p : ℕ → Bool) → any n p ≡ true → Some n p
+unfolding any
+any-some zero p h = no-tf h refl
+any-some (suc n) p h =
+    or-case _ _ (sym (any-more n p) ∙ h) (λ t. record { at = n; low = lt-suc-self n; fact = t })
+    (λ t. let s = any-some n p t in record { at = s .at; low = le-step (s .low); fact = s .fact })
+
+pub any-none : (n : ℕ) (p : ℕ → Bool) → any n p ≡ false → (v : ℕ) → v < n → p v ≡ false
+any-none n p h v l = refute (p v) (λ t. no-tf (some-any n p v l t) h)
+
+pub any-cong : (n : ℕ) (p q : ℕ → Bool) → ((v : ℕ) → v < n → p v ≡ q v) → any n p ≡ any n q
+any-cong n p q h =
+    iff _ _ (λ t. let s = any-some n p t in some-any n q (s .at) (s .low) (sym (h (s .at) (s .low)) ∙ s .fact))
+    (λ t. let s = any-some n q t in some-any n p (s .at) (s .low) (h (s .at) (s .low) ∙ s .fact))
+
+pub all-more : (n : ℕ) (p : ℕ → Bool) → all (suc n) p ≡ p n & all n p
+unfolding all _&_
+all-more n p = bcase (p n) (λ t. rw (t, all)) (λ t. rw (t, all))
+
+pub every-all : (n : ℕ) (p : ℕ → Bool) → ((v : ℕ) → v < n → p v ≡ true) → all n p ≡ true
+unfolding all
+every-all zero p h = refl
+every-all (suc n) p h = all-more n p ∙ both (h n (lt-suc-self n)) (every-all n p (λ v l. h v (le-step l)))
+
+pub all-every : (n : ℕ) (p : ℕ → Bool) → all n p ≡ true → (v : ℕ) → v < n → p v ≡ true
+all-every zero p h v l = absurd (not-suc-le-zero l)
+all-every (suc n) p h v l =
+    let t = sym (all-more n p) ∙ h in
+    bcase (same v n) (λ e. ap p (same-eq v n e) ∙ and-l _ _ t) (λ e. let m = same-ne v n e in all-every n p (and-r _ _ t) v (omega arith))
+
+-- ---- the least number that passes
+
+pub least-here : (n : ℕ) (p : ℕ → Bool) → p 0 ≡ true → least (suc n) p ≡ 0
+unfolding least
+least-here n p t = rw (t, least)
+
+pub least-there : (n : ℕ) (p : ℕ → Bool) → p 0 ≡ false → least (suc n) p ≡ suc (least n (λ v. p (suc v)))
+unfolding least
+least-there n p t = rw (t, least)
+
+pub least-le : (n : ℕ) (p : ℕ → Bool) → least n p ≤ n
+unfolding least
+least-le zero p = zero-le
+least-le (suc n) p =
+    bcase (p 0) (λ t. let e = least-here n p t in omega arith)
+    (λ t. let e = least-there n p t in let i = least-le n (λ v. p (suc v)) in omega arith)
+
+pub least-fact : (n : ℕ) (p : ℕ → Bool) → least n p < n → p (least n p) ≡ true
+least-fact zero p l = absurd (not-suc-le-zero l)
+least-fact (suc n) p l =
+    bcase (p 0) (λ t. ap p (least-here n p t) ∙ t)
+    (λ t.
+    let e = least-there n p t in
+    ap p e ∙ least-fact n (λ v. p (suc v)) (omega arith))
+
+pub least-before : (n : ℕ) (p : ℕ → Bool) (v : ℕ) → v < least n p → p v ≡ false
+unfolding least
+least-before zero p v l = absurd (not-suc-le-zero l)
+least-before (suc n) p v l = bcase (p 0) (λ t. let e = least-here n p t in let z : ⊥ = omega arith in absurd z) (λ t. go v t (least-there n p t) (λ u. least-before n (λ x. p (suc x)) u) l)
+  where
+    go : (u : ℕ) → p 0 ≡ false → least (suc n) p ≡ suc (least n (λ x. p (suc x)))
+        → ((w : ℕ) → w < least n (λ x. p (suc x)) → p (suc w) ≡ false) → u < least (suc n) p → p u ≡ false
+    go zero t e i m = t
+    go (suc u) t e i m = i u (omega arith)
+
+-- a number that passes bounds the least
+pub least-found : (n : ℕ) (p : ℕ → Bool) (v : ℕ) → p v ≡ true → least n p ≤ v
+least-found n p v h = bcase (below v (least n p)) (λ t. no-tf h (least-before n p v (below-lt _ _ t))) (λ t. below-le _ _ t)
+
+-- the least number is the one that passes, with none before it that does
+pub least-unique : (n : ℕ) (p : ℕ → Bool) (m : ℕ) → m ≤ n → (m < n → p m ≡ true) → ((v : ℕ) → v < m → p v ≡ false) → least n p ≡ m
+least-unique n p m l h b =
+    bcase (below (least n p) m) (λ t. let k = below-lt _ _ t in no-tf (least-fact n p (omega arith)) (b _ k))
+    (λ t.
+    let k = below-le _ _ t in
+    bcase (below m (least n p))
+    (λ s. let j = below-lt _ _ s in let o = least-le n p in no-tf (h (omega arith)) (least-before n p m j))
+    (λ s. let j = below-le _ _ s in omega arith))
+
+pub least-cong : (n : ℕ) (p q : ℕ → Bool) → ((v : ℕ) → v < n → p v ≡ q v) → least n p ≡ least n q
+least-cong n p q h =
+    least-unique n p (least n q) (least-le n q) (λ l. h _ l ∙ least-fact n q l)
+    (λ v l. let k = least-le n q in h v (omega arith) ∙ least-before n q v l)

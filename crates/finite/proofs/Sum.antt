@@ -1,0 +1,156 @@
+-- Laws of finite sums: agreement and order term by term, addition, factors, one term, exchange of two sums.
+use mathlib.Core.Path.{_≡_, refl, sym, _∙_, ap, ap₂}
+use mathlib.Core.Bool.{Bool, true, false}
+use Prim.Native.Nat.{ℕ, zero, suc, _+_, _*_, _≤_, _<_, zero-le}
+use native.Mathlib.Nat.{le-refl, le-step, lt-suc-self, add-le-add, mul-add, mul-zero, zero-mul, add-mul}
+use native.Mathlib.Omega.{arith}
+use Rattle.finite.specs.Truth.{_&_, _or_, non, same}
+use Rattle.finite.specs.Sum.{sumTo, when, sumIf, count}
+use Rattle.finite.proofs.Truth.{no-tf, bcase, iff, refute, same-eq, same-ne, same-refl, ne-same, both, and-r, and-true, and-false}
+
+pub sum-none : (f : ℕ → ℕ) → sumTo 0 f ≡ 0
+unfolding sumTo
+sum-none f = refl
+
+pub sum-more : (n : ℕ) (f : ℕ → ℕ) → sumTo (suc n) f ≡ sumTo n f + f n
+unfolding sumTo
+sum-more n f = refl
+
+pub sum-cong : (n : ℕ) (f g : ℕ → ℕ) → ((v : ℕ) → v < n → f v ≡ g v) → sumTo n f ≡ sumTo n g
+unfolding sumTo
+sum-cong zero f g h = refl
+sum-cong (suc n) f g h = ap₂ _+_ (sum-cong n f g (λ v l. h v (le-step l))) (h n (lt-suc-self n))
+
+pub sum-le : (n : ℕ) (f g : ℕ → ℕ) → ((v : ℕ) → v < n → f v ≤ g v) → sumTo n f ≤ sumTo n g
+unfolding sumTo
+sum-le zero f g h = zero-le
+sum-le (suc n) f g h = add-le-add (sum-le n f g (λ v l. h v (le-step l))) (h n (lt-suc-self n))
+
+pub sum-add : (n : ℕ) (f g : ℕ → ℕ) → sumTo n (λ v. f v + g v) ≡ sumTo n f + sumTo n g
+unfolding sumTo
+sum-add zero f g = refl
+sum-add (suc n) f g = let e = sum-add n f g in omega arith
+
+pub sum-mul : (n k : ℕ) (f : ℕ → ℕ) → sumTo n (λ v. k * f v) ≡ k * sumTo n f
+unfolding sumTo
+sum-mul zero k f = sym (mul-zero k)
+sum-mul (suc n) k f = ap (λ (x : ℕ). x + k * f n) (sum-mul n k f) ∙ sym (mul-add k (sumTo n f) (f n))
+
+pub sum-zero : (n : ℕ) (f : ℕ → ℕ) → ((v : ℕ) → v < n → f v ≡ 0) → sumTo n f ≡ 0
+unfolding sumTo
+sum-zero zero f h = refl
+sum-zero (suc n) f h = ap₂ _+_ (sum-zero n f (λ v l. h v (le-step l))) (h n (lt-suc-self n))
+
+-- each term is at most the sum
+pub sum-term : (n : ℕ) (f : ℕ → ℕ) (v : ℕ) → v < n → f v ≤ sumTo n f
+unfolding sumTo
+sum-term zero f v l = omega arith
+sum-term (suc n) f v l =
+    bcase (same v n) (λ t. let e : f v ≡ f n = ap f (same-eq v n t) in omega arith)
+    (λ t. let m = same-ne v n t in let i = sum-term n f v (omega arith) in omega arith)
+
+pub when-le : (b : Bool) (x : ℕ) → when b x ≤ x
+when-le true x = le-refl x
+when-le false x = zero-le
+
+pub when-true : {b : Bool} (x : ℕ) → b ≡ true → when b x ≡ x
+when-true {b = true} x h = refl
+when-true {b = false} x h = no-tf h refl
+
+pub when-false : {b : Bool} (x : ℕ) → b ≡ false → when b x ≡ 0
+when-false {b = true} x h = no-tf refl h
+when-false {b = false} x h = refl
+
+-- a number at which the test fails counts nothing, so two numbers that agree where it passes count alike
+pub when-cong : (b : Bool) (x y : ℕ) → (b ≡ true → x ≡ y) → when b x ≡ when b y
+when-cong true x y h = h refl
+when-cong false x y h = refl
+
+pub when-mono : (b : Bool) (x y : ℕ) → (b ≡ true → x ≤ y) → when b x ≤ when b y
+when-mono true x y h = h refl
+when-mono false x y h = zero-le
+
+pub when-and : (a b : Bool) (x : ℕ) → when (a & b) x ≡ when a (when b x)
+when-and true b x = ap (λ (t : Bool). when t x) (and-true b)
+when-and false b x = ap (λ (t : Bool). when t x) (and-false b)
+
+pub when-split : (b : Bool) (x : ℕ) → x ≡ when b x + when (non b) x
+unfolding non
+when-split true x = omega arith
+when-split false x = omega arith
+
+pub when-test : (a b : Bool) (x : ℕ) → (a ≡ true → b ≡ true) → when a x ≤ when b x
+when-test true b x h = let e = when-true x (h refl) in omega arith
+when-test false b x h = zero-le
+
+-- the sum whose only term stands at v
+pub sum-only : (n v : ℕ) (f : ℕ → ℕ) → v < n → sumTo n (λ u. when (same v u) (f u)) ≡ f v
+unfolding sumTo
+sum-only zero v f l = omega arith
+sum-only (suc n) v f l =
+    bcase (same v n)
+    (λ t.
+    let e = same-eq v n t in
+    let z : sumTo n (λ u. when (same v u) (f u)) ≡ 0 = sum-zero n (λ u. when (same v u) (f u)) (λ u k. when-false (f u) (ne-same (λ q. omega arith))) in
+    let o = when-true (f n) t in
+    let x : f v ≡ f n = ap f e in
+    omega arith)
+    (λ t.
+    let m = same-ne v n t in
+    let i = sum-only n v f (omega arith) in
+    let o = when-false (f n) t in
+    omega arith)
+
+-- two sums, one within the other, in either order
+pub sum-swap : (n m : ℕ) (f : ℕ → ℕ → ℕ) → sumTo n (λ a. sumTo m (λ b. f a b)) ≡ sumTo m (λ b. sumTo n (λ a. f a b))
+unfolding sumTo
+sum-swap zero m f = sym (sum-zero m (λ b. 0) (λ b l. refl))
+sum-swap (suc n) m f =
+    ap (λ (x : ℕ). x + sumTo m (λ b. f n b)) (sum-swap n m f) ∙ sym (sum-add m (λ b. sumTo n (λ a. f a b)) (λ b. f n b))
+
+-- a sum over p parts into those that pass q and those that fail it
+pub sum-split : (n : ℕ) (p q : ℕ → Bool) (f : ℕ → ℕ) → sumIf n p f ≡ sumIf n (λ v. p v & q v) f + sumIf n (λ v. p v & non (q v)) f
+unfolding _&_ non
+sum-split n p q f =
+    sum-cong n (λ v. when (p v) (f v)) (λ v. when (p v & q v) (f v) + when (p v & non (q v)) (f v)) (λ v l. go (p v) (q v) (f v))
+    ∙ sum-add n (λ v. when (p v & q v) (f v)) (λ v. when (p v & non (q v)) (f v))
+  where
+    go : (a b : Bool) (x : ℕ) → when a x ≡ when (a & b) x + when (a & non b) x
+    go true true x = omega arith
+    go true false x = omega arith
+    go false b x = refl
+
+-- the sum without one number that passes
+pub sum-without : (n : ℕ) (p : ℕ → Bool) (f : ℕ → ℕ) (v : ℕ) → v < n → p v ≡ true
+    → sumIf n p f ≡ f v + sumIf n (λ u. p u & non (same v u)) f
+sum-without n p f v l h =
+    let s = sum-split n p (same v) f in
+    let o = sum-only n v f l in
+    let e = sum-cong n (λ u. when (p u & same v u) (f u)) (λ u. when (same v u) (f u)) (λ u k.
+    ap (λ (b : Bool). when b (f u)) (iff _ _ (λ t. and-r _ _ t) (λ t. both (ap p (sym (same-eq v u t)) ∙ h) t))) in
+    omega arith
+
+-- ---- counts
+
+pub count-cong : (n : ℕ) (p q : ℕ → Bool) → ((v : ℕ) → v < n → p v ≡ q v) → count n p ≡ count n q
+count-cong n p q h = sum-cong n (λ v. when (p v) 1) (λ v. when (q v) 1) (λ v l. ap (λ (b : Bool). when b 1) (h v l))
+
+pub count-le : (n : ℕ) (p q : ℕ → Bool) → ((v : ℕ) → v < n → p v ≡ true → q v ≡ true) → count n p ≤ count n q
+count-le n p q h = sum-le n (λ v. when (p v) 1) (λ v. when (q v) 1) (λ v l. when-test (p v) (q v) 1 (h v l))
+
+pub count-none : (n : ℕ) (p : ℕ → Bool) → ((v : ℕ) → v < n → p v ≡ false) → count n p ≡ 0
+count-none n p h = sum-zero n (λ v. when (p v) 1) (λ v l. when-false 1 (h v l))
+
+-- at most n numbers pass
+pub count-bound : (n : ℕ) (p : ℕ → Bool) → count n p ≤ n
+unfolding sumTo
+count-bound zero p = zero-le
+count-bound (suc n) p = let i = count-bound n p in let w = when-le (p n) 1 in omega arith
+
+-- a number that passes is counted
+pub count-member : (n : ℕ) (p : ℕ → Bool) (v : ℕ) → v < n → p v ≡ true → 0 < count n p
+count-member n p v l h = let t = sum-term n (λ u. when (p u) 1) v l in let o = when-true 1 h in omega arith
+
+-- the count without one number that passes is one less
+pub count-without : (n : ℕ) (p : ℕ → Bool) (v : ℕ) → v < n → p v ≡ true → count n p ≡ suc (count n (λ u. p u & non (same v u)))
+count-without n p v l h = let e = sum-without n p (λ u. 1) v l h in omega arith

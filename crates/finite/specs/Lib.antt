@@ -1,0 +1,4 @@
+pub mod Truth
+pub mod Sum
+pub mod Search
+pub mod Sets

@@ -1,0 +1,1 @@
+// Theory alone: tests, finite sums, searches, and sets written as numbers. No function.
