@@ -14,8 +14,8 @@ use borrow.Author.Tests.{eqb-true, eqb-false, eq-eqb, ne-eqb}
 use Rattle.finite.specs.Truth.{_&_, _or_, non, same, below}
 use Rattle.finite.specs.Sum.{sumTo, when, sumIf, count}
 use Rattle.finite.specs.Search.{least}
-use Rattle.finite.specs.Sets.{has, setOf}
-use Rattle.finite.proofs.Truth.{no-tf, bcase, iff, refute, both, and-l, and-r, or-l, or-r, or-case, non-true, true-non, same-eq, same-ne, same-refl, and-true, and-false, below-lt, below-le}
+use Rattle.finite.specs.Sets.{has, setOf, without}
+use Rattle.finite.proofs.Truth.{no-tf, bcase, iff, refute, both, and-l, and-r, or-l, or-r, or-case, non-true, true-non, ne-same, same-eq, same-ne, same-refl, and-true, and-false, below-lt, below-le}
 use Rattle.finite.proofs.Sum.{sum-cong, sum-more, sum-none, sum-only, sum-split, sum-without, when-true, when-false}
 use Rattle.finite.proofs.Search.{least-here, least-there, least-cong}
 
@@ -188,8 +188,8 @@ unfolding setOf
 one-set n v l = sym (sum-only n v (λ u. 2 ^ u) l)
 
 -- a member's digit taken away
-pub less-set : (n w v : ℕ) → w < 2 ^ n → v < n → has w v ≡ true → w - 2 ^ v ≡ setOf n (λ u. has w u & non (same v u))
-unfolding setOf
+pub less-set : (n w v : ℕ) → w < 2 ^ n → v < n → has w v ≡ true → w - 2 ^ v ≡ setOf n (without (has w) v)
+unfolding setOf without
 less-set n w v h l t =
     let s = sum-without n (has w) (λ u. 2 ^ u) v l t in
     let e = setOf-has n w h in
@@ -236,3 +236,20 @@ trailing-least (suc n) w =
     (λ t.
     ap (λ (d : ℕ). under d (trailingZeros n (w / 2))) (sym first ∙ bit-when w 0 ∙ when-false 1 t) ∙ ap suc rest
     ∙ sym (least-there n (has w) t))
+
+-- ---- a set with one number taken out
+
+pub without-in : (R : ℕ → Bool) (v u : ℕ) → without R v u ≡ true → R u ≡ true
+unfolding without
+without-in R v u h = and-l _ _ h
+
+pub without-ne : (R : ℕ → Bool) (v u : ℕ) → without R v u ≡ true → v ≡ u → ⊥
+unfolding without
+without-ne R v u h e = no-tf (ap (same v) (sym e) ∙ same-refl v) (non-true _ (and-r _ _ h))
+
+pub in-without : (R : ℕ → Bool) {v u : ℕ} → R u ≡ true → (v ≡ u → ⊥) → without R v u ≡ true
+unfolding without
+in-without R h n = both h (true-non (ne-same n))
+
+pub without-other : (R : ℕ → Bool) (v u : ℕ) → R v ≡ false → without R v u ≡ R u
+without-other R v u h = iff _ _ (without-in R v u) (λ t. in-without R t (λ e. no-tf t (sym (ap R e) ∙ h)))

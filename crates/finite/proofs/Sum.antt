@@ -6,6 +6,7 @@ use native.Mathlib.Nat.{le-refl, le-step, lt-suc-self, add-le-add, mul-add, mul-
 use native.Mathlib.Omega.{arith}
 use Rattle.finite.specs.Truth.{_&_, _or_, non, same}
 use Rattle.finite.specs.Sum.{sumTo, when, sumIf, count}
+use Rattle.finite.specs.Sets.{without}
 use Rattle.finite.proofs.Truth.{no-tf, bcase, iff, refute, same-eq, same-ne, same-refl, ne-same, both, and-r, and-true, and-false}
 
 pub sum-none : (f : ℕ → ℕ) → sumTo 0 f ≡ 0
@@ -122,7 +123,8 @@ sum-split n p q f =
 
 -- the sum without one number that passes
 pub sum-without : (n : ℕ) (p : ℕ → Bool) (f : ℕ → ℕ) (v : ℕ) → v < n → p v ≡ true
-    → sumIf n p f ≡ f v + sumIf n (λ u. p u & non (same v u)) f
+    → sumIf n p f ≡ f v + sumIf n (without p v) f
+unfolding without
 sum-without n p f v l h =
     let s = sum-split n p (same v) f in
     let o = sum-only n v f l in
@@ -152,5 +154,5 @@ pub count-member : (n : ℕ) (p : ℕ → Bool) (v : ℕ) → v < n → p v ≡ 
 count-member n p v l h = let t = sum-term n (λ u. when (p u) 1) v l in let o = when-true 1 h in omega arith
 
 -- the count without one number that passes is one less
-pub count-without : (n : ℕ) (p : ℕ → Bool) (v : ℕ) → v < n → p v ≡ true → count n p ≡ suc (count n (λ u. p u & non (same v u)))
+pub count-without : (n : ℕ) (p : ℕ → Bool) (v : ℕ) → v < n → p v ≡ true → count n p ≡ suc (count n (without p v))
 count-without n p v l h = let e = sum-without n p (λ u. 1) v l h in omega arith

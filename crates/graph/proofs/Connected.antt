@@ -1,0 +1,1 @@
+-- The tests mean the walks.

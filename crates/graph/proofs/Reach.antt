@@ -1,0 +1,1 @@
+-- The set that grows along links holds exactly the nodes that walks lead to.

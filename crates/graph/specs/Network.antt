@@ -1,0 +1,38 @@
+-- A network is a number of nodes n and a test `edge` for links; a node set is a test. These are the words that a reader believes.
+use mathlib.Core.Path.{_≡_}
+use mathlib.Core.Bool.{Bool, true, false}
+use Prim.Native.Nat.{ℕ, _<_}
+use Rattle.finite.specs.Truth.{_&_}
+use Rattle.finite.specs.Sum.{count}
+use Rattle.finite.specs.Sets.{without}
+
+-- 01: "Links are undirected [..] no node linked to itself"; each link joins two of the n nodes
+pub record Network (n : ℕ) (edge : ℕ → ℕ → Bool) : Type 0 where
+  pub undirected : (a b : ℕ) → edge a b ≡ true → edge b a ≡ true
+  pub no-loop : (a : ℕ) → edge a a ≡ true → ⊥
+  pub inside : (a b : ℕ) → edge a b ≡ true → b < n
+
+-- every member of R is one of the n nodes
+abbrev pub Members : ℕ → (ℕ → Bool) → Type 0
+Members n R = (v : ℕ) → R v ≡ true → v < n
+
+-- the links of the remaining graph: those between two members of R
+unfoldable pub among : (ℕ → Bool) → (ℕ → ℕ → Bool) → ℕ → ℕ → Bool
+among R edge a b = R a & R b & edge a b
+
+-- a walk from one node to another: none, one or more links in a row
+pub data Walk (edge : ℕ → ℕ → Bool) : ℕ → ℕ → Type 0 where
+  here : {a : ℕ} → Walk edge a a
+  step : {a b c : ℕ} → edge a b ≡ true → Walk edge b c → Walk edge a c
+
+-- any two members of R are joined by a walk inside R; so one node alone is connected
+abbrev pub Connected : (ℕ → ℕ → Bool) → (ℕ → Bool) → Type 0
+Connected edge R = (a b : ℕ) → R a ≡ true → R b ≡ true → Walk (among R edge) a b
+
+-- 01: "A cut node of a connected graph is one whose removal leaves a graph that isn't connected"
+abbrev pub CutNode : (ℕ → ℕ → Bool) → (ℕ → Bool) → ℕ → Type 0
+CutNode edge R v = Connected edge (without R v) → ⊥
+
+-- the number of v's neighbours in R
+unfoldable pub degree : ℕ → (ℕ → ℕ → Bool) → (ℕ → Bool) → ℕ → ℕ
+degree n edge R v = count n (λ u. R u & edge v u)

@@ -1,0 +1,1 @@
+// Theory alone: networks over any number of nodes and any links. No function.
