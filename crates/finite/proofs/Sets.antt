@@ -64,6 +64,9 @@ digit-top a k r h = ap (λ (m : ℕ). m % 2) (high a k h)
 pub has-out : (w n v : ℕ) → w < 2 ^ n → n ≤ v → has w v ≡ false
 has-out w n v h l = has-zero w v (ap (λ (m : ℕ). m % 2) (div-eq-of-lt (lt-of-lt-of-le h (pow-mono l))))
 
+pub has-lt : (n w v : ℕ) → w < 2 ^ n → has w v ≡ true → v < n
+has-lt n w v l h = bcase (below v n) (λ t. below-lt v n t) (λ t. no-tf h (has-out w n v l (below-le v n t)))
+
 pub setOf-none : (p : ℕ → Bool) → setOf 0 p ≡ 0
 unfolding setOf sumTo
 setOf-none p = refl

@@ -2,7 +2,7 @@
 use mathlib.Core.Path.{_≡_, refl, sym, _∙_, ap, ap₂}
 use mathlib.Core.Bool.{Bool, true, false}
 use Prim.Native.Nat.{ℕ, zero, suc, _+_, _*_, _≤_, _<_, zero-le}
-use native.Mathlib.Nat.{le-refl, le-step, lt-suc-self, add-le-add, mul-add, mul-zero, zero-mul, add-mul}
+use native.Mathlib.Nat.{le-refl, le-step, lt-suc-self, not-suc-le-zero, add-le-add, mul-add, mul-zero, zero-mul, add-mul}
 use native.Mathlib.Omega.{arith}
 use Rattle.finite.specs.Truth.{_&_, _or_, non, same}
 use Rattle.finite.specs.Sum.{sumTo, when, sumIf, count}
@@ -156,3 +156,15 @@ count-member n p v l h = let t = sum-term n (λ u. when (p u) 1) v l in let o = 
 -- the count without one number that passes is one less
 pub count-without : (n : ℕ) (p : ℕ → Bool) (v : ℕ) → v < n → p v ≡ true → count n p ≡ suc (count n (without p v))
 count-without n p v l h = let e = sum-without n p (λ u. 1) v l h in omega arith
+
+-- where n of the numbers below n pass, all do
+pub count-full : (n : ℕ) (p : ℕ → Bool) → n ≤ count n p → (v : ℕ) → v < n → p v ≡ true
+unfolding sumTo
+count-full zero p h v l = absurd (not-suc-le-zero l)
+count-full (suc n) p h v l =
+    let b = count-bound n p in
+    bcase (p n)
+    (λ t.
+    let w = when-true 1 t in
+    bcase (same v n) (λ e. ap p (same-eq v n e) ∙ t) (λ e. let m = same-ne v n e in count-full n p (omega arith) v (omega arith)))
+    (λ t. let w = when-false 1 t in absurd (omega arith))

@@ -1,1 +1,65 @@
--- The tests mean the walks.
+-- What the tests decide: `joined`, `connected` and `cut` say what the walks of specs/Network.antt say.
+use mathlib.Core.Path.{_≡_, refl, sym, _∙_, ap, fun-ext}
+use mathlib.Core.Bool.{Bool, true, false}
+use mathlib.Core.Logic.{_↔_}
+use Prim.Native.Nat.{ℕ, _≤_, _<_}
+use native.Mathlib.Omega.{arith}
+use Rattle.finite.specs.Truth.{_&_, _or_, non, same}
+use Rattle.finite.specs.Search.{all, least}
+use Rattle.finite.specs.Sets.{has, without}
+use Rattle.finite.proofs.Truth.{no-tf, bcase, iff, refute, or-l, or-r, or-case, non-true, true-non, false-non, non-false, same-eq, same-refl}
+use Rattle.finite.proofs.Search.{every-all, all-every, least-found, least-fact}
+use Rattle.finite.proofs.Sets.{without-in}
+use Rattle.graph.specs.Network.{Network, Members, Walk, among, Connected, CutNode}
+use Rattle.graph.specs.Reach.{reach, covers, joined, connected, cut}
+use Rattle.graph.proofs.Walk.{walk-append, walk-reverse, among-to, among-network}
+use Rattle.graph.proofs.Reach.{From, reach-from, reach-walk}
+
+covers-member : (n : ℕ) (R : ℕ → Bool) (s v : ℕ) → covers n R s ≡ true → v < n → R v ≡ true → has s v ≡ true
+unfolding covers
+covers-member n R s v h l m = or-case _ _ (all-every n _ h v l) (λ t. no-tf m (non-true _ t)) (λ t. t)
+
+member-covers : (n : ℕ) (R : ℕ → Bool) (s : ℕ) → ((v : ℕ) → v < n → R v ≡ true → has s v ≡ true) → covers n R s ≡ true
+unfolding covers
+member-covers n R s h = every-all n _ (λ v l. bcase (R v) (λ t. or-r _ (h v l t)) (λ t. or-l _ (true-non t)))
+
+module _ (n : ℕ) (edge : ℕ → ℕ → Bool) (net : Network n edge) (R : ℕ → Bool) (m : Members n R) where
+  -- where R is joined, walks lead from each member to each
+  pub joined-walk : joined n edge R ≡ true → (a b : ℕ) → R a ≡ true → R b ≡ true → Walk edge a b
+  unfolding joined
+  joined-walk h a b x y = walk-append (walk-reverse (net .undirected) (to a x)) (to b y)
+    where
+      to : (v : ℕ) → R v ≡ true → Walk edge (least n R) v
+      to v t = let f = reach-from n edge (same (least n R)) v (covers-member n R _ v h (m v t) t) in rw (same-eq _ _ (f .fact)) (f .walk)
+
+  pub walk-joined : ((a b : ℕ) → R a ≡ true → R b ≡ true → Walk edge a b) → joined n edge R ≡ true
+  unfolding joined
+  walk-joined h =
+      member-covers n R _ (λ v l t.
+      let k = least-found n R v t in
+      reach-walk n edge (net .inside) (same (least n R)) (omega arith) (same-refl _) (h _ v (least-fact n R (omega arith)) t))
+
+pub members-without : {n : ℕ} (R : ℕ → Bool) → Members n R → (v : ℕ) → Members n (without R v)
+members-without R m v u h = m u (without-in R v u h)
+
+module _ (n : ℕ) (edge : ℕ → ℕ → Bool) (net : Network n edge) where
+  -- the test of connectedness means that any two members are joined by a walk inside
+  pub connected-iff : (R : ℕ → Bool) → Members n R → (connected n edge R ≡ true) ↔ Connected edge R
+  unfolding connected
+  connected-iff R m = (
+    joined-walk n (among R edge) (among-network R net) R m,
+    walk-joined n (among R edge) (among-network R net) R m,
+  )
+
+  -- the cut test means that removal leaves a graph that isn't connected
+  pub cut-iff : (R : ℕ → Bool) → Members n R → (v : ℕ) → (cut n edge R v ≡ true) ↔ CutNode edge R v
+  unfolding cut
+  cut-iff R m v =
+      let i = connected-iff (without R v) (members-without R m v) in (
+        λ h k. no-tf (i .1 k) (non-true _ h),
+        λ h. true-non (refute _ (λ t. h (i .0 t))),
+      )
+
+  pub uncut-connected : (R : ℕ → Bool) → Members n R → (v : ℕ) → cut n edge R v ≡ false → Connected edge (without R v)
+  unfolding cut
+  uncut-connected R m v h = connected-iff (without R v) (members-without R m v) .0 (non-false _ h)

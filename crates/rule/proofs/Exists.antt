@@ -1,0 +1,1 @@
+-- 001's Lemma 2: a connected remaining graph has a candidate.
