@@ -1,21 +1,15 @@
 -- What the searches find: a witness or a refutation, lowest number first.
 use mathlib.Core.Path.{_≡_, refl, sym, _∙_, ap}
 use mathlib.Core.Bool.{Bool, true, false}
-use mathlib.Core.Logic.{_⊎_, inl, inr}
+use mathlib.Core.Logic.{_⊎_, inl, inr, ⊎-elim}
 use Prim.Native.Nat.{ℕ, zero, suc, _+_, _≤_, _<_, zero-le, suc-le-suc}
 use native.Mathlib.Nat.{le-step, lt-suc-self, not-suc-le-zero}
 use native.Mathlib.Omega.{arith}
 use Rattle.finite.specs.Truth.{_&_, _or_, non, same, below}
 use Rattle.finite.specs.Sum.{sumTo, count}
-use Rattle.finite.specs.Search.{any, all, least}
+use Rattle.finite.specs.Search.{Some, any, all, least}
 use Rattle.finite.proofs.Truth.{no-tf, bcase, iff, refute, both, and-l, and-r, or-l, or-r, or-case, same-eq, same-ne, below-lt, below-le}
 use Rattle.finite.proofs.Sum.{count-member}
-
--- some number below n passes p
-pub record Some (n : ℕ) (p : ℕ → Bool) : Type 0 where
-  pub at : ℕ
-  pub low : at < n
-  pub fact : p at ≡ true
 
 -- a number below n that passes p, or the fact that none does
 pub find : (n : ℕ) (p : ℕ → Bool) → Some n p ⊎ ((v : ℕ) → v < n → p v ≡ false)
@@ -122,3 +116,30 @@ pub least-cong : (n : ℕ) (p q : ℕ → Bool) → ((v : ℕ) → v < n → p v
 least-cong n p q h =
     least-unique n p (least n q) (least-le n q) (λ l. h _ l ∙ least-fact n q l)
     (λ v l. let k = least-le n q in h v (omega arith) ∙ least-before n q v l)
+
+-- ---- the number with the least measure
+
+-- a number below n that passes p, and no other that does has a lower measure f
+pub record Smallest (n : ℕ) (p : ℕ → Bool) (f : ℕ → ℕ) : Type 0 where
+  pub at : ℕ
+  pub low : at < n
+  pub fact : p at ≡ true
+  pub bound : (v : ℕ) → v < n → p v ≡ true → f at ≤ f v
+
+pub smallest : (n : ℕ) (p : ℕ → Bool) (f : ℕ → ℕ) → Some n p → Smallest n p f
+smallest n p f s = go (suc (f (s .at))) s (lt-suc-self _)
+  where
+    go : (k : ℕ) (s : Some n p) → f (s .at) < k → Smallest n p f
+    go zero s l = absurd (not-suc-le-zero l)
+    go (suc k) s l =
+        ⊎-elim
+        (λ t.
+        let less = below-lt _ _ (and-r _ _ (t .fact)) in
+        go k (record { at = t .at; low = t .low; fact = and-l _ _ (t .fact) }) (omega arith))
+        (λ none. record {
+          at = s .at;
+          low = s .low;
+          fact = s .fact;
+          bound = λ v b h. bcase (below (f v) (f (s .at))) (λ t. no-tf (both h t) (none v b)) (below-le _ _);
+        })
+        (find n (λ v. p v & below (f v) (f (s .at))))

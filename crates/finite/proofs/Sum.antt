@@ -2,7 +2,7 @@
 use mathlib.Core.Path.{_≡_, refl, sym, _∙_, ap, ap₂}
 use mathlib.Core.Bool.{Bool, true, false}
 use Prim.Native.Nat.{ℕ, zero, suc, _+_, _*_, _≤_, _<_, zero-le}
-use native.Mathlib.Nat.{le-refl, le-step, lt-suc-self, not-suc-le-zero, add-le-add, mul-add, mul-zero, zero-mul, add-mul}
+use native.Mathlib.Nat.{le-refl, le-step, lt-suc-self, not-suc-le-zero, add-le-add, mul-add, mul-zero, mul-one, zero-mul, add-mul}
 use native.Mathlib.Omega.{arith}
 use Rattle.finite.specs.Truth.{_&_, _or_, non, same}
 use Rattle.finite.specs.Sum.{sumTo, when, sumIf, count}
@@ -168,3 +168,38 @@ count-full (suc n) p h v l =
     let w = when-true 1 t in
     bcase (same v n) (λ e. ap p (same-eq v n e) ∙ t) (λ e. let m = same-ne v n e in count-full n p (omega arith) v (omega arith)))
     (λ t. let w = when-false 1 t in absurd (omega arith))
+
+-- ---- sums over the numbers that pass a test
+
+-- terms that agree where the test passes
+pub sumIf-cong : (n : ℕ) (p : ℕ → Bool) (f g : ℕ → ℕ) → ((v : ℕ) → p v ≡ true → f v ≡ g v) → sumIf n p f ≡ sumIf n p g
+sumIf-cong n p f g h = sum-cong n (λ v. when (p v) (f v)) (λ v. when (p v) (g v)) (λ v l. when-cong (p v) (f v) (g v) (h v))
+
+-- k for each number that passes
+pub sumIf-same : (n : ℕ) (p : ℕ → Bool) (k : ℕ) → sumIf n p (λ v. k) ≡ k * count n p
+sumIf-same n p k = sum-cong n (λ v. when (p v) k) (λ v. k * when (p v) 1) (λ v l. go (p v)) ∙ sum-mul n k (λ v. when (p v) 1)
+  where
+    go : (b : Bool) → when b k ≡ k * when b 1
+    go true = sym (mul-one k)
+    go false = sym (mul-zero k)
+
+-- at least k for each number that passes
+pub sumIf-bound : (n : ℕ) (p : ℕ → Bool) (f : ℕ → ℕ) (k : ℕ) → ((v : ℕ) → p v ≡ true → k ≤ f v) → k * count n p ≤ sumIf n p f
+sumIf-bound n p f k h =
+    let e = sumIf-same n p k in
+    let l = sum-le n (λ v. when (p v) k) (λ v. when (p v) (f v)) (λ v b. when-mono (p v) k (f v) (h v)) in
+    omega arith
+
+pub sumIf-add : (n : ℕ) (p : ℕ → Bool) (f g : ℕ → ℕ) → sumIf n p (λ v. f v + g v) ≡ sumIf n p f + sumIf n p g
+sumIf-add n p f g =
+    sum-cong n (λ v. when (p v) (f v + g v)) (λ v. when (p v) (f v) + when (p v) (g v)) (λ v l. go (p v) (f v) (g v))
+    ∙ sum-add n (λ v. when (p v) (f v)) (λ v. when (p v) (g v))
+  where
+    go : (b : Bool) (x y : ℕ) → when b (x + y) ≡ when b x + when b y
+    go true x y = refl
+    go false x y = refl
+
+-- a sum over p of terms that q allows is the sum over both
+pub sumIf-when : (n : ℕ) (p q : ℕ → Bool) (f : ℕ → ℕ) → sumIf n p (λ v. when (q v) (f v)) ≡ sumIf n (λ v. p v & q v) f
+sumIf-when n p q f =
+    sum-cong n (λ v. when (p v) (when (q v) (f v))) (λ v. when (p v & q v) (f v)) (λ v l. sym (when-and (p v) (q v) (f v)))

@@ -1,6 +1,6 @@
 -- Laws of tests: how a fact about a connective is made, taken apart and refuted.
 use mathlib.Core.Path.{_≡_, refl, sym, _∙_}
-use mathlib.Core.Bool.{Bool, true, false, true≢false}
+use mathlib.Core.Bool.{Bool, true, false, not, true≢false}
 use Prim.Native.Nat.{ℕ, _<_, _≤_}
 use borrow.Author.Tests.{lt-ltb, le-ltb, ltb-true, ltb-false, eq-eqb, ne-eqb, eqb-true, eqb-false}
 use Rattle.finite.specs.Truth.{_&_, _or_, non, same, below}
@@ -96,6 +96,12 @@ pub false-non : {b : Bool} → b ≡ true → non b ≡ false
 unfolding non
 false-non {b = true} h = refl
 false-non {b = false} h = sym h
+
+-- the code's `!`
+pub not-non : (b : Bool) → not b ≡ non b
+unfolding non
+not-non true = refl
+not-non false = refl
 
 -- two tests that pass together are equal
 pub iff : (a b : Bool) → (a ≡ true → b ≡ true) → (b ≡ true → a ≡ true) → a ≡ b

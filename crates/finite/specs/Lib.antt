@@ -2,3 +2,4 @@ pub mod Truth
 pub mod Sum
 pub mod Search
 pub mod Sets
+pub mod Lists

@@ -1,6 +1,13 @@
 -- Searches over the numbers 0 .. n - 1: does some, does every number pass, and which is the least that does.
+use mathlib.Core.Path.{_≡_}
 use mathlib.Core.Bool.{Bool, true, false}
-use Prim.Native.Nat.{ℕ, zero, suc}
+use Prim.Native.Nat.{ℕ, zero, suc, _<_}
+
+-- some number below n passes p
+pub record Some (n : ℕ) (p : ℕ → Bool) : Type 0 where
+  pub at : ℕ
+  pub low : at < n
+  pub fact : p at ≡ true
 
 unfoldable pub any : ℕ → (ℕ → Bool) → Bool
 any zero p = false

@@ -1,3 +1,5 @@
 pub mod Walk
 pub mod Reach
 pub mod Connected
+pub mod Flood
+pub mod Remaining

@@ -12,7 +12,7 @@ use Rattle.finite.specs.Search.{any}
 use Rattle.finite.specs.Sets.{has, setOf, without}
 use Rattle.finite.proofs.Truth.{no-tf, bcase, iff, refute, both, and-l, and-r, or-l, or-r, or-case, non-true, true-non}
 use Rattle.finite.proofs.Sum.{count-le, count-without, count-bound, count-full}
-use Rattle.finite.proofs.Search.{Some, find, some-any, any-some}
+use Rattle.finite.proofs.Search.{find, some-any, any-some, any-cong}
 use Rattle.finite.proofs.Sets.{has-setOf, setOf-lt, setOf-out, set-ext, setOf-has, has-lt, in-without, setOf-cong}
 use Rattle.graph.specs.Network.{Walk, here, step}
 use Rattle.graph.specs.Reach.{grow, spread, reach}
@@ -146,3 +146,24 @@ module _ (n : ℕ) (edge : ℕ → ℕ → Bool) where
     pub reach-walk : (p : ℕ → Bool) {u v : ℕ} → u < n → p u ≡ true → Walk edge u v → has (reach n edge p) v ≡ true
     reach-walk p l h w =
         walk-closed (λ x. has (reach n edge p) x ≡ true) (λ a b e t. reach-closed p a b t e (inside a b e)) w (reach-start p _ l h)
+
+-- links that agree between the first n nodes, and starts that agree there, reach the same nodes
+module _ (n : ℕ) (edge link : ℕ → ℕ → Bool) (agree : (a b : ℕ) → a < n → b < n → edge a b ≡ link a b) where
+  grow-cong : (s : ℕ) → grow n edge s ≡ grow n link s
+  unfolding grow
+  grow-cong s = setOf-cong n _ _ (λ v l. ap (λ (t : Bool). has s v or t) (any-cong n _ _ (λ u k. ap (λ (t : Bool). has s u & t) (agree u v k l))))
+
+  spread-cong : (k s : ℕ) → spread k n edge s ≡ spread k n link s
+  unfolding spread
+  spread-cong zero s = refl
+  spread-cong (suc k) s =
+      bcase (eqb (grow n edge s) s)
+      (λ t. let e = eqb-true _ _ t in spread-stop n edge k s e ∙ sym (spread-stop n link k s (sym (grow-cong s) ∙ e)))
+      (λ t.
+      let d = eqb-false _ _ t in
+      spread-go n edge k s d ∙ ap (spread k n edge) (grow-cong s) ∙ spread-cong k (grow n link s)
+      ∙ sym (spread-go n link k s (λ e. d (grow-cong s ∙ e))))
+
+  pub reach-cong : (p q : ℕ → Bool) → ((v : ℕ) → v < n → p v ≡ q v) → reach n edge p ≡ reach n link q
+  unfolding reach
+  reach-cong p q h = spread-cong n (setOf n p) ∙ ap (spread n n link) (setOf-cong n p q h)

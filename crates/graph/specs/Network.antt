@@ -2,7 +2,7 @@
 use mathlib.Core.Path.{_≡_}
 use mathlib.Core.Bool.{Bool, true, false}
 use Prim.Native.Nat.{ℕ, _<_}
-use Rattle.finite.specs.Truth.{_&_}
+use Rattle.finite.specs.Truth.{_&_, non, same}
 use Rattle.finite.specs.Sum.{count}
 use Rattle.finite.specs.Sets.{without}
 
@@ -19,6 +19,10 @@ Members n R = (v : ℕ) → R v ≡ true → v < n
 -- the links of the remaining graph: those between two members of R
 unfoldable pub among : (ℕ → Bool) → (ℕ → ℕ → Bool) → ℕ → ℕ → Bool
 among R edge a b = R a & R b & edge a b
+
+-- the links that do not touch v: what is left when v is struck out
+unfoldable pub avoid : ℕ → (ℕ → ℕ → Bool) → ℕ → ℕ → Bool
+avoid v edge = among (λ u. non (same v u)) edge
 
 -- a walk from one node to another: none, one or more links in a row
 pub data Walk (edge : ℕ → ℕ → Bool) : ℕ → ℕ → Type 0 where

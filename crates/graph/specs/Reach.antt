@@ -5,7 +5,7 @@ use lib.Dec.{eqb}
 use Rattle.finite.specs.Truth.{_&_, _or_, non, same}
 use Rattle.finite.specs.Search.{any, all, least}
 use Rattle.finite.specs.Sets.{has, setOf, without}
-use Rattle.graph.specs.Network.{among}
+use Rattle.graph.specs.Network.{among, avoid}
 
 -- s, and each node that a link joins to a member of s
 unfoldable pub grow : ℕ → (ℕ → ℕ → Bool) → ℕ → ℕ
@@ -33,3 +33,7 @@ connected n edge R = joined n (among R edge) R
 
 unfoldable pub cut : ℕ → (ℕ → ℕ → Bool) → (ℕ → Bool) → ℕ → Bool
 cut n edge R v = non (connected n edge (without R v))
+
+-- the same two tests over the links of the remaining graph themselves, as a table holds them: `joined n links R`, and
+unfoldable pub splits : ℕ → (ℕ → ℕ → Bool) → (ℕ → Bool) → ℕ → Bool
+splits n links R v = non (joined n (avoid v links) (without R v))

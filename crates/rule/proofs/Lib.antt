@@ -1,1 +1,3 @@
+pub mod Part
+pub mod Room
 pub mod Exists

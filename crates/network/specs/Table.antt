@@ -1,0 +1,34 @@
+-- A network as the code holds it: pairs of bytes, and a table of neighbour words.
+use mathlib.Core.Bool.{Bool}
+use mathlib.Core.List.{List}
+use Prim.Native.Nat.{ℕ, _+_, _*_, _/_}
+use lib.ListN.{length, getD}
+use Rattle.finite.specs.Truth.{_&_, _or_, non, same}
+use Rattle.finite.specs.Search.{any}
+use Rattle.finite.specs.Sets.{has, setOf}
+use Rattle.finite.specs.Lists.{tabulate}
+use Rattle.nodes.specs.Limits.{maxNodes}
+
+-- the pair (x, y) joins a and b: links are undirected, and no node is linked to itself
+unfoldable pub joins : ℕ → ℕ → ℕ → ℕ → Bool
+joins x y a b = non (same x y) & (same x a & same y b or same x b & same y a)
+
+-- one of the first k pairs joins a and b
+unfoldable pub linkedBy : ℕ → List ℕ → ℕ → ℕ → Bool
+linkedBy k pairs a b = any k (λ i. joins (getD pairs (2 * i) 0) (getD pairs (2 * i + 1) 0) a b)
+
+-- a pair of the list joins a and b; a last byte without a second makes no pair
+unfoldable pub linked : List ℕ → ℕ → ℕ → Bool
+linked pairs = linkedBy (length pairs / 2) pairs
+
+-- the links of a table: b is in the neighbour word of a
+unfoldable pub edgeOf : List ℕ → ℕ → ℕ → Bool
+edgeOf t a b = has (getD t a 0) b
+
+-- the table of the links between the first 64 numbers
+unfoldable pub tableFrom : (ℕ → ℕ → Bool) → List ℕ
+tableFrom edge = tabulate maxNodes (λ a. setOf maxNodes (edge a))
+
+-- the neighbour table of a list of pairs
+abbrev pub tableOf : List ℕ → List ℕ
+tableOf pairs = tableFrom (linked pairs)

@@ -1,0 +1,108 @@
+// A network as a table of 64 neighbour words, made from byte pairs: strike a node out of a copy, flood, test connectedness, test for a cut node.
+ghost use mathlib.Core.Path.{_≡_};
+ghost use mathlib.Core.Bool.{Bool};
+ghost use Prim.Native.Nat.{ℕ, _<_, _^_};
+ghost use lib.ListN.{getD};
+ghost use Rattle.finite.specs.Truth.{_or_, non};
+ghost use Rattle.finite.specs.Sum.{count};
+ghost use Rattle.finite.specs.Sets.{has, setOf};
+ghost use Rattle.graph.specs.Network.{avoid};
+ghost use Rattle.graph.specs.Reach.{reach, joined, splits};
+ghost use Rattle.nodes.specs.Limits.{maxNodes};
+ghost use Rattle.network.specs.Table.{joins, linked, edgeOf, tableFrom, tableOf};
+use nodes::MAX_NODES;
+
+// The neighbour word of v, empty past the table's end.
+pub fn row(t: &[u64], v: usize) -> u64
+    ensures { λ r. ⌜ r ≡ getD (now (t .entry)) v 0 ⌝ }
+{
+    if v < t.len() { t[v] } else { 0 }
+}
+
+// The number of v's links: the number of ones in its neighbour word.
+pub fn degree(t: &[u64], v: usize) -> usize
+    ensures { λ r. ⌜ r ≡ count maxNodes (edgeOf (now (t .entry)) v) ⌝ }
+{
+    nodes::size(row(t, v))
+}
+
+// The table with a and b linked too.
+fn link(t: [u64; MAX_NODES], a: usize, b: usize) -> [u64; MAX_NODES]
+    ensures links { λ r. ⌜ ((x y : ℕ) → x < maxNodes → y < maxNodes → edgeOf r x y ≡ joins a b x y or edgeOf t x y) ⌝ }
+    ensures words { λ r. ⌜ ((x : ℕ) → getD t x 0 < 2 ^ maxNodes → getD r x 0 < 2 ^ maxNodes) ⌝ }
+{
+    if a == b {
+        return t;
+    }
+    if MAX_NODES <= a {
+        return t;
+    }
+    if MAX_NODES <= b {
+        return t;
+    }
+    let mut next = t;
+    next[a] = nodes::with(next[a], b);
+    next[b] = nodes::with(next[b], a);
+    next
+}
+
+// The neighbour table of a list of byte pairs.
+pub fn table_of(pairs: &[u8]) -> [u64; MAX_NODES]
+    ensures { λ r. ⌜ r ≡ tableOf (now (pairs .entry)) ⌝ }
+{
+    let mut t = [0u64; MAX_NODES];
+    for i in 0..pairs.len() / 2 {
+        let s = link(t, pairs[2 * i] as usize, pairs[2 * i + 1] as usize);
+        t = s;
+    }
+    t
+}
+
+// The neighbour word of u once v is struck out.
+fn struck_row(w: u64, u: usize, v: usize) -> u64
+    ensures { λ r. ⌜ r ≡ setOf maxNodes (avoid v (λ a b. has w b) u) ⌝ }
+{
+    if u == v { 0 } else { nodes::without(w, v) }
+}
+
+// A copy of the table with v struck out: none of its links is left, in either direction.
+pub fn strike(t: [u64; MAX_NODES], v: usize) -> [u64; MAX_NODES]
+    ensures { λ r. ⌜ r ≡ tableFrom (avoid v (edgeOf t)) ⌝ }
+{
+    let mut rest = t;
+    for u in 0..MAX_NODES {
+        rest[u] = struck_row(rest[u], u, v);
+    }
+    rest
+}
+
+// The nodes that walks lead to from the nodes of start.
+pub fn flood(t: &[u64], start: u64) -> u64
+    ensures { λ r. ⌜ r ≡ reach maxNodes (edgeOf (now (t .entry))) (has start) ⌝ }
+{
+    let mut seen = start;
+    let mut front = start;
+    while front != 0 {
+        let v = nodes::lowest(front);
+        let found = nodes::difference(row(t, v), seen);
+        seen = nodes::union(seen, found);
+        front = nodes::union(nodes::without(front, v), found);
+    }
+    seen
+}
+
+// Do walks lead from the lowest node of w to each of its nodes?
+pub fn joined(t: &[u64], w: u64) -> bool
+    ensures { λ r. ⌜ r ≡ joined maxNodes (edgeOf (now (t .entry))) (has w) ⌝ }
+{
+    let seen = flood(t, nodes::one(nodes::lowest(w)));
+    nodes::difference(w, seen) == 0
+}
+
+// Does striking out v leave the other nodes of w unjoined? The test is made on a copy of the table.
+pub fn splits(t: [u64; MAX_NODES], w: u64, v: usize) -> bool
+    ensures { λ r. ⌜ r ≡ splits maxNodes (edgeOf t) (has w) v ⌝ }
+{
+    let rest = strike(t, v);
+    !joined(&rest, nodes::without(w, v))
+}
