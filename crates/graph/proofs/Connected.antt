@@ -15,7 +15,7 @@ use Rattle.finite.proofs.Sets.{has-0, has-setOf, setOf-lt, set-empty, without-i
 use Rattle.graph.specs.Network.{Network, Members, Walk, among, Connected, CutNode}
 use Rattle.graph.specs.Reach.{reach, covers, joined, connected, cut}
 use Rattle.graph.proofs.Walk.{walk-append, walk-reverse, among-to, among-network}
-use Rattle.graph.proofs.Reach.{From, reach-from, reach-walk, reach-cong}
+use Rattle.graph.proofs.Reach.{reach-from, reach-walk, reach-cong}
 
 pub covers-member : (n : ℕ) (R : ℕ → Bool) (s v : ℕ) → covers n R s ≡ true → v < n → R v ≡ true → has s v ≡ true
 unfolding covers

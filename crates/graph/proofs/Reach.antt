@@ -14,16 +14,9 @@ use Rattle.finite.proofs.Truth.{no-tf, bcase, iff, refute, both, and-l, and-r, 
 use Rattle.finite.proofs.Sum.{count-le, count-without, count-bound, count-full}
 use Rattle.finite.proofs.Search.{find, some-any, any-some, any-cong}
 use Rattle.finite.proofs.Sets.{has-setOf, setOf-lt, setOf-out, set-ext, setOf-has, has-lt, in-without, setOf-cong}
-use Rattle.graph.specs.Network.{Walk, here, step}
+use Rattle.graph.specs.Network.{Walk, here, step, From}
 use Rattle.graph.specs.Reach.{grow, spread, reach}
 use Rattle.graph.proofs.Walk.{walk-append, walk-one, walk-closed}
-
--- a walk that starts at a node below n which passes p, and leads to v
-pub record From (n : ℕ) (edge : ℕ → ℕ → Bool) (p : ℕ → Bool) (v : ℕ) : Type 0 where
-  pub start : ℕ
-  pub low : start < n
-  pub fact : p start ≡ true
-  pub walk : Walk edge start v
 
 -- no link leads out of the set p, to a node below n
 abbrev pub Closed : ℕ → (ℕ → ℕ → Bool) → (ℕ → Bool) → Type 0

@@ -29,6 +29,13 @@ pub data Walk (edge : ℕ → ℕ → Bool) : ℕ → ℕ → Type 0 where
   here : {a : ℕ} → Walk edge a a
   step : {a b c : ℕ} → edge a b ≡ true → Walk edge b c → Walk edge a c
 
+-- a walk that starts at a node below n which passes p, and leads to v
+pub record From (n : ℕ) (edge : ℕ → ℕ → Bool) (p : ℕ → Bool) (v : ℕ) : Type 0 where
+  pub start : ℕ
+  pub low : start < n
+  pub fact : p start ≡ true
+  pub walk : Walk edge start v
+
 -- any two members of R are joined by a walk inside R; so one node alone is connected
 abbrev pub Connected : (ℕ → ℕ → Bool) → (ℕ → Bool) → Type 0
 Connected edge R = (a b : ℕ) → R a ≡ true → R b ≡ true → Walk (among R edge) a b

@@ -1,3 +1,4 @@
 pub mod Table
 pub mod Visit
 pub mod Links
+pub mod Meaning

@@ -1,5 +1,5 @@
 -- Tables made link by link: what one pair adds, and that all pairs together make the table of a list of pairs.
-use mathlib.Core.Path.{_≡_, refl, sym, _∙_, ap}
+use mathlib.Core.Path.{_≡_, refl, sym, _∙_, ap, ap₂}
 use mathlib.Core.Bool.{Bool, true, false}
 use mathlib.Core.List.{List}
 use Prim.Native.Nat.{ℕ, suc, _+_, _*_, _/_, _^_, _≤_, _<_}
@@ -124,15 +124,15 @@ linking-none pairs = record {
         let l : length {A = ℕ} (replicate maxNodes 0) ≤ a = rw (length-replicate {A = ℕ} maxNodes 0) (below-le _ _ t) in
         List·getD-eq-default (replicate maxNodes 0) 0 l)
 
-pub linking-more : {pairs t s : List ℕ} {i : ℕ} → Linking pairs t i → length s ≡ maxNodes → Words s
-    → ((x y : ℕ) → x < maxNodes → y < maxNodes → edgeOf s x y ≡ joins (getD pairs (2 * i) 0) (getD pairs (2 * i + 1) 0) x y or edgeOf t x y)
+pub linking-more : {pairs t s : List ℕ} {i a b : ℕ} → Linking pairs t i → a ≡ getD pairs (2 * i) 0 → b ≡ getD pairs (2 * i + 1) 0
+    → length s ≡ maxNodes → Words s → ((x y : ℕ) → x < maxNodes → y < maxNodes → edgeOf s x y ≡ joins a b x y or edgeOf t x y)
     → Linking pairs s (i + 1)
-linking-more {pairs} {t} {s} {i} q e w h = record {
+linking-more {pairs} {i = i} {a = a} {b = b} q ea eb e w h = record {
   size = e;
   words = w;
   links = λ x y k l.
-      h x y k l ∙ ap (λ (b : Bool). joins (getD pairs (2 * i) 0) (getD pairs (2 * i + 1) 0) x y or b) (q .links x y k l)
-      ∙ sym (linkedBy-more i pairs x y);
+      h x y k l ∙ ap (λ (r : Bool). joins a b x y or r) (q .links x y k l)
+      ∙ ap₂ (λ (c d : ℕ). joins c d x y or linkedBy i pairs x y) ea eb ∙ sym (linkedBy-more i pairs x y);
 }
 
 pub linking-all : {pairs t : List ℕ} {i : ℕ} → Linking pairs t i → i ≡ length pairs / 2 → t ≡ tableFrom (linked pairs)

@@ -7,6 +7,7 @@ use Rattle.finite.specs.Truth.{_&_, _or_, non, same}
 use Rattle.finite.specs.Search.{any}
 use Rattle.finite.specs.Sets.{has, setOf}
 use Rattle.finite.specs.Lists.{tabulate}
+use Rattle.graph.specs.Network.{among}
 use Rattle.nodes.specs.Limits.{maxNodes}
 
 -- the pair (x, y) joins a and b: links are undirected, and no node is linked to itself
@@ -32,3 +33,7 @@ tableFrom edge = tabulate maxNodes (λ a. setOf maxNodes (edge a))
 -- the neighbour table of a list of pairs
 abbrev pub tableOf : List ℕ → List ℕ
 tableOf pairs = tableFrom (linked pairs)
+
+-- the table of the remaining graph: the links between two members of R
+abbrev pub remaining : (ℕ → Bool) → (ℕ → ℕ → Bool) → List ℕ
+remaining R edge = tableFrom (among R edge)

@@ -12,6 +12,13 @@ ghost use Rattle.nodes.specs.Limits.{maxNodes};
 ghost use Rattle.network.specs.Table.{joins, linked, edgeOf, tableFrom, tableOf};
 use nodes::MAX_NODES;
 
+// The byte at place i, 0 past the end.
+pub fn byte_at(s: &[u8], i: usize) -> usize
+    ensures { λ r. ⌜ r ≡ getD (now (s .entry)) i 0 ⌝ }
+{
+    if i < s.len() { s[i] as usize } else { 0 }
+}
+
 // The neighbour word of v, empty past the table's end.
 pub fn row(t: &[u64], v: usize) -> u64
     ensures { λ r. ⌜ r ≡ getD (now (t .entry)) v 0 ⌝ }
@@ -52,7 +59,7 @@ pub fn table_of(pairs: &[u8]) -> [u64; MAX_NODES]
 {
     let mut t = [0u64; MAX_NODES];
     for i in 0..pairs.len() / 2 {
-        let s = link(t, pairs[2 * i] as usize, pairs[2 * i + 1] as usize);
+        let s = link(t, byte_at(pairs, 2 * i), byte_at(pairs, 2 * i + 1));
         t = s;
     }
     t

@@ -1,65 +1,49 @@
+-- `network::link` meets its contract: a pair outside the limits adds nothing, any other adds both directions.
 use native.Mathlib.Omega.{arith}
 use borrow.Author.Needs.{needs}
 use Rattle.network.proofs.Links.{joins-ends, joins-ne, link-none, link-one, link-words}
 use Rattle.network.proofs.link.Statement.{statement}
 use Rattle.network.proofs.link.Tie as tie
-use Rattle.network.proofs.link.Reads as reads
-use Rattle.network.proofs.link.Lts as lts
-use Rattle.nodes.proofs.with.Reads as with-reads
 
--- src/lib.rt:34:9
 returns : tie.Need-returns
 returns c = (link-none _ _ _ (λ x y k l j. joins-ne _ _ x y j (c .if1 .taken)), λ x h. h)
 
--- src/lib.rt:37:9
 returns-2 : tie.Need-returns-2
 returns-2 c = (link-none _ _ _ (λ x y k l j. joins-ends _ _ x y j (λ e f. let h = c .if2 .taken in omega arith) (λ e f. let h = c .if2 .taken in omega arith)), λ x h. h)
 
--- src/lib.rt:40:9
 returns-3 : tie.Need-returns-3
 returns-3 c = (link-none _ _ _ (λ x y k l j. joins-ends _ _ x y j (λ e f. let h = c .if3 .taken in omega arith) (λ e f. let h = c .if3 .taken in omega arith)), λ x h. h)
 
--- src/lib.rt:43:27
 mul-with : tie.Need-mul-with
 mul-with c = search needs
 
--- src/lib.rt:43:27
 array-read-with : tie.Need-array-read-with
 array-read-with c = search needs
 
--- src/lib.rt:43:15
 with-requires : tie.Need-with-requires
 with-requires c κs = search needs
 
--- src/lib.rt:43:5
 mul-next : tie.Need-mul-next
 mul-next c = search needs
 
--- src/lib.rt:43:5
 array-write-next : tie.Need-array-write-next
 array-write-next c = search needs
 
--- src/lib.rt:44:27
 mul-with-2 : tie.Need-mul-with-2
 mul-with-2 c = search needs
 
--- src/lib.rt:44:27
 array-read-with-2 : tie.Need-array-read-with-2
 array-read-with-2 c = search needs
 
--- src/lib.rt:44:15
 with-requires-2 : tie.Need-with-requires-2
 with-requires-2 c κs = search needs
 
--- src/lib.rt:44:5
 mul-next-2 : tie.Need-mul-next-2
 mul-next-2 c = search needs
 
--- src/lib.rt:44:5
 array-write-next-2 : tie.Need-array-write-next-2
 array-write-next-2 c = search needs
 
--- src/lib.rt:30:1
 returns-4 : tie.Need-returns-4
 returns-4 c =
     let a = c .before .before .before .before .before .args in
