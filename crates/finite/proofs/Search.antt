@@ -9,7 +9,7 @@ use Rattle.finite.specs.Truth.{_&_, _or_, non, same, below}
 use Rattle.finite.specs.Sum.{sumTo, count}
 use Rattle.finite.specs.Search.{Some, any, all, least}
 use Rattle.finite.proofs.Truth.{no-tf, bcase, iff, refute, both, and-l, and-r, or-l, or-r, or-case, same-eq, same-ne, below-lt, below-le}
-use Rattle.finite.proofs.Sum.{count-member}
+use Rattle.finite.proofs.Sum.{count-none}
 
 -- a number below n that passes p, or the fact that none does
 pub find : (n : ℕ) (p : ℕ → Bool) → Some n p ⊎ ((v : ℕ) → v < n → p v ≡ false)
@@ -21,6 +21,9 @@ find (suc n) p = go (find n p)
     go (inr h) =
         bcase (p n) (λ t. inl (record { at = n; low = lt-suc-self n; fact = t }))
         (λ f. inr (λ v l. bcase (same v n) (λ e. ap p (same-eq v n e) ∙ f) (λ e. let m = same-ne v n e in h v (omega arith))))
+
+pub count-some : (n : ℕ) (p : ℕ → Bool) → 0 < count n p → Some n p
+count-some n p h = ⊎-elim (λ s. s) (λ none. let z = count-none n p none in absurd (omega arith)) (find n p)
 
 pub any-more : (n : ℕ) (p : ℕ → Bool) → any (suc n) p ≡ p n or any n p
 unfolding any _or_

@@ -4,10 +4,10 @@ use mathlib.Core.Bool.{Bool, true, false}
 use Prim.Native.Nat.{ℕ, zero, suc, _+_, _*_, _≤_, _<_, zero-le}
 use native.Mathlib.Nat.{le-refl, le-step, lt-suc-self, not-suc-le-zero, add-le-add, mul-add, mul-zero, mul-one, zero-mul, add-mul}
 use native.Mathlib.Omega.{arith}
-use Rattle.finite.specs.Truth.{_&_, _or_, non, same}
+use Rattle.finite.specs.Truth.{_&_, _or_, non, same, below}
 use Rattle.finite.specs.Sum.{sumTo, when, sumIf, count}
 use Rattle.finite.specs.Sets.{without}
-use Rattle.finite.proofs.Truth.{no-tf, bcase, iff, refute, same-eq, same-ne, same-refl, ne-same, both, and-r, and-true, and-false}
+use Rattle.finite.proofs.Truth.{no-tf, bcase, iff, refute, same-eq, same-ne, same-refl, ne-same, both, and-r, and-true, and-false, below-lt, below-le, lt-below}
 
 pub sum-none : (f : ℕ → ℕ) → sumTo 0 f ≡ 0
 unfolding sumTo
@@ -156,6 +156,20 @@ count-member n p v l h = let t = sum-term n (λ u. when (p u) 1) v l in let o = 
 -- the count without one number that passes is one less
 pub count-without : (n : ℕ) (p : ℕ → Bool) (v : ℕ) → v < n → p v ≡ true → count n p ≡ suc (count n (without p v))
 count-without n p v l h = let e = sum-without n p (λ u. 1) v l h in omega arith
+
+-- m of the numbers below n are below m
+pub count-below : (n m : ℕ) → m ≤ n → count n (λ v. below v m) ≡ m
+unfolding sumTo
+count-below zero m l = omega arith
+count-below (suc n) m l =
+    bcase (below n m)
+    (λ t.
+    let k = below-lt n m t in
+    let e : count n (λ v. below v m) ≡ count n (λ v. below v n) = count-cong n _ _ (λ v h. lt-below {a = v} {b = m} (omega arith) ∙ sym (lt-below h)) in
+    let i = count-below n n (le-refl n) in
+    let w = when-true 1 t in
+    omega arith)
+    (λ t. let k = below-le n m t in let i = count-below n m k in let w = when-false 1 t in omega arith)
 
 -- where n of the numbers below n pass, all do
 pub count-full : (n : ℕ) (p : ℕ → Bool) → n ≤ count n p → (v : ℕ) → v < n → p v ≡ true

@@ -6,13 +6,14 @@ use Prim.Native.Nat.{ℕ, suc, _+_, _*_, _/_, _^_, _≤_, _<_}
 use native.Mathlib.Numerals.{add-one}
 use native.Mathlib.Omega.{arith}
 use lib.Dec.{lit<}
-use lib.ListN.{length, getD, set, replicate, length-set, length-replicate, getD-replicate, List·getD-eq-default}
+use lib.ListN.{length, getD, set, replicate, length-set, length-replicate}
 use lib.Seq.{getD-set-same, getD-set-other}
-use Rattle.finite.specs.Truth.{_&_, _or_, non, same, below}
+use Rattle.finite.specs.Truth.{_&_, _or_, non, same}
 use Rattle.finite.specs.Search.{any}
 use Rattle.finite.specs.Sets.{has, setOf}
-use Rattle.finite.proofs.Truth.{no-tf, bcase, iff, refute, both, and-l, and-r, or-l, or-r, or-case, or-false, non-true, true-non, same-refl, same-eq, same-ne, eq-same, ne-same, below-lt, below-le}
+use Rattle.finite.proofs.Truth.{no-tf, bcase, iff, refute, both, and-l, and-r, or-l, or-r, or-case, or-false, non-true, true-non, same-refl, same-eq, same-ne, eq-same, ne-same}
 use Rattle.finite.proofs.Search.{any-more}
+use Rattle.finite.proofs.Lists.{getD-zeros}
 use Rattle.finite.proofs.Sets.{has-0, has-setOf, setOf-lt}
 use Rattle.nodes.specs.Limits.{maxNodes}
 use Rattle.network.specs.Table.{joins, linkedBy, linked, edgeOf, tableFrom}
@@ -113,16 +114,9 @@ pub linking-none : (pairs : List ℕ) → Linking pairs (replicate maxNodes 0) 0
 unfolding edgeOf
 linking-none pairs = record {
   size = length-replicate {A = ℕ} maxNodes 0;
-  words = λ a. rw (zeros a) (lit< tt);
-  links = λ x y k l. ap (λ (r : ℕ). has r y) (zeros x) ∙ has-0 y ∙ sym (linkedBy-none pairs x y);
+  words = λ a. rw (getD-zeros maxNodes a) (lit< tt);
+  links = λ x y k l. ap (λ (r : ℕ). has r y) (getD-zeros maxNodes x) ∙ has-0 y ∙ sym (linkedBy-none pairs x y);
 }
-  where
-    zeros : (a : ℕ) → _≡_ {A = ℕ} (getD (replicate maxNodes 0) a 0) 0
-    zeros a =
-        bcase (below a maxNodes) (λ t. getD-replicate {A = ℕ} maxNodes a 0 0 (below-lt _ _ t))
-        (λ t.
-        let l : length {A = ℕ} (replicate maxNodes 0) ≤ a = rw (length-replicate {A = ℕ} maxNodes 0) (below-le _ _ t) in
-        List·getD-eq-default (replicate maxNodes 0) 0 l)
 
 pub linking-more : {pairs t s : List ℕ} {i a b : ℕ} → Linking pairs t i → a ≡ getD pairs (2 * i) 0 → b ≡ getD pairs (2 * i + 1) 0
     → length s ≡ maxNodes → Words s → ((x y : ℕ) → x < maxNodes → y < maxNodes → edgeOf s x y ≡ joins a b x y or edgeOf t x y)

@@ -1,3 +1,7 @@
 pub mod Part
 pub mod Room
 pub mod Exists
+pub mod Choice
+pub mod Stages
+pub mod Labels
+pub mod Climb
