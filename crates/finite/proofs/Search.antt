@@ -3,12 +3,12 @@ use mathlib.Core.Path.{_≡_, refl, sym, _∙_, ap}
 use mathlib.Core.Bool.{Bool, true, false}
 use mathlib.Core.Logic.{_⊎_, inl, inr, ⊎-elim}
 use Prim.Native.Nat.{ℕ, zero, suc, _+_, _≤_, _<_, zero-le, suc-le-suc}
-use native.Mathlib.Nat.{le-step, lt-suc-self, not-suc-le-zero}
+use native.Mathlib.Nat.{le-refl, le-step, lt-suc-self, not-suc-le-zero}
 use native.Mathlib.Omega.{arith}
 use Rattle.finite.specs.Truth.{_&_, _or_, non, same, below}
 use Rattle.finite.specs.Sum.{sumTo, count}
-use Rattle.finite.specs.Search.{Some, any, all, least}
-use Rattle.finite.proofs.Truth.{no-tf, bcase, iff, refute, both, and-l, and-r, or-l, or-r, or-case, same-eq, same-ne, below-lt, below-le}
+use Rattle.finite.specs.Search.{Some, any, all, least, leastValue, lowestAt, leastBy, LeastBy}
+use Rattle.finite.proofs.Truth.{no-tf, bcase, iff, refute, both, and-l, and-r, false-and, or-l, or-r, or-case, same-eq, same-ne, same-refl, eq-same, below-lt, below-le}
 use Rattle.finite.proofs.Sum.{count-none}
 
 -- a number below n that passes p, or the fact that none does
@@ -146,3 +146,63 @@ smallest n p f s = go (suc (f (s .at))) s (lt-suc-self _)
           bound = λ v b h. bcase (below (f v) (f (s .at))) (λ t. no-tf (both h t) (none v b)) (below-le _ _);
         })
         (find n (λ v. p v & below (f v) (f (s .at))))
+
+-- ---- the least number by a value
+
+module _ (n : ℕ) (f : ℕ → ℕ) (p : ℕ → Bool) where
+  abbrev at-value : ℕ → ℕ → Bool
+  at-value x v = same (f v) x & p v
+
+  pub leastBy-least : (b : ℕ) → ((v : ℕ) → v < n → f v < b) → Some n p → LeastBy n f p (leastBy b n f p)
+  unfolding leastBy lowestAt leastValue
+  leastBy-least b low s =
+      let X : ℕ = least b (λ x. any n (at-value x)) in
+      let bound : (u : ℕ) → u < n → p u ≡ true → X ≤ f u = λ u l h. least-found b (λ x. any n (at-value x)) (f u) (some-any n (at-value _) u l (both (same-refl _) h)) in
+      let x = bound (s .at) (s .low) (s .fact) in
+      let y = low (s .at) (s .low) in
+      let w = any-some n (at-value X) (least-fact b (λ x. any n (at-value x)) (omega arith)) in
+      let k = least-found n (at-value X) (w .at) (w .fact) in
+      let j = w .low in
+      let l : least n (at-value X) < n = omega arith in
+      let h = least-fact n (at-value X) l in
+      let e : f (least n (at-value X)) ≡ X = same-eq _ _ (and-l _ _ h) in
+      record {
+        low = l;
+        fact = and-r _ _ h;
+        first = λ u i q.
+          let g = bound u i q in
+          bcase (below X (f u)) (λ t. let z = below-lt _ _ t in inl (omega arith))
+          (λ t.
+          let z = below-le _ _ t in
+          let r : X ≡ f u = omega arith in
+          inr (e ∙ r, least-found n (at-value X) u (both (eq-same (sym r)) q)))
+      }
+
+  pub leastBy-none : (b : ℕ) → ((v : ℕ) → v < n → p v ≡ false) → leastBy b n f p ≡ n
+  unfolding leastBy lowestAt
+  leastBy-none b h = least-unique n (at-value _) n (le-refl n) (λ l. absurd (omega arith)) (λ v l. refute _ (λ t. no-tf (and-r _ _ t) (h v l)))
+
+  pub leastBy-le : (b : ℕ) → leastBy b n f p ≤ n
+  unfolding leastBy lowestAt
+  leastBy-le b = least-le n (at-value _)
+
+  pub least-by-unique : (u v : ℕ) → LeastBy n f p u → LeastBy n f p v → u ≡ v
+  least-by-unique u v x y =
+      ⊎-elim (λ l. ⊎-elim (λ k. absurd (omega arith)) (λ k. let e = k .0 in absurd (omega arith)) (y .first u (x .low) (x .fact)))
+      (λ l.
+      let e = l .0 in
+      let i = l .1 in
+      ⊎-elim (λ k. absurd (omega arith)) (λ k. let j = k .1 in omega arith) (y .first u (x .low) (x .fact)))
+      (x .first v (y .low) (y .fact))
+
+-- the test, and the values where it passes, are all that counts
+pub leastBy-cong : (b n : ℕ) (f g : ℕ → ℕ) (p q : ℕ → Bool) → ((v : ℕ) → v < n → p v ≡ q v) → ((v : ℕ) → v < n → p v ≡ true → f v ≡ g v)
+    → leastBy b n f p ≡ leastBy b n g q
+unfolding leastBy lowestAt leastValue
+leastBy-cong b n f g p q h e =
+    least-cong n _ _ (λ v l. agree _ v l ∙ ap (λ (x : ℕ). same (g v) x & q v) (least-cong b _ _ (λ x k. any-cong n _ _ (λ u j. agree x u j))))
+  where
+    agree : (x v : ℕ) → v < n → same (f v) x & p v ≡ same (g v) x & q v
+    agree x v l =
+        bcase (p v) (λ t. ap (λ (y : ℕ). same y x & p v) (e v l t) ∙ ap (λ (c : Bool). same (g v) x & c) (h v l))
+        (λ t. ap (λ (c : Bool). same (f v) x & c) t ∙ false-and _ ∙ sym (ap (λ (c : Bool). same (g v) x & c) (sym (h v l) ∙ t) ∙ false-and _))

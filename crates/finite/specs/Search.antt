@@ -1,7 +1,9 @@
 -- Searches over the numbers 0 .. n - 1: does some, does every number pass, and which is the least that does.
 use mathlib.Core.Path.{_≡_}
 use mathlib.Core.Bool.{Bool, true, false}
-use Prim.Native.Nat.{ℕ, zero, suc, _<_}
+use mathlib.Core.Logic.{_⊎_}
+use Prim.Native.Nat.{ℕ, zero, suc, _≤_, _<_}
+use Rattle.finite.specs.Truth.{_&_, same}
 
 -- some number below n passes p
 pub record Some (n : ℕ) (p : ℕ → Bool) : Type 0 where
@@ -21,3 +23,19 @@ all (suc n) p = elim (p n) [ true ↦ all n p | false ↦ false ]
 unfoldable pub least : ℕ → (ℕ → Bool) → ℕ
 least zero p = 0
 least (suc n) p = elim (p 0) [ true ↦ 0 | false ↦ suc (least n (λ v. p (suc v))) ]
+
+-- of the numbers below n that pass p, the one with the least f, the lowest of them where several have it; n where none passes. Each f is below b.
+unfoldable pub leastValue : ℕ → ℕ → (ℕ → ℕ) → (ℕ → Bool) → ℕ
+leastValue b n f p = least b (λ x. any n (λ v. same (f v) x & p v))
+
+unfoldable pub lowestAt : ℕ → (ℕ → ℕ) → (ℕ → Bool) → ℕ → ℕ
+lowestAt n f p x = least n (λ v. same (f v) x & p v)
+
+unfoldable pub leastBy : ℕ → ℕ → (ℕ → ℕ) → (ℕ → Bool) → ℕ
+leastBy b n f p = lowestAt n f p (leastValue b n f p)
+
+-- the same in words: v passes, and every number that does has a higher f, or the same f and is no lower
+pub record LeastBy (n : ℕ) (f : ℕ → ℕ) (p : ℕ → Bool) (v : ℕ) : Type 0 where
+  pub low : v < n
+  pub fact : p v ≡ true
+  pub first : (u : ℕ) → u < n → p u ≡ true → (f v < f u) ⊎ ((f v ≡ f u) × (v ≤ u))

@@ -1,2 +1,10 @@
+pub mod General
 pub mod Run
 pub mod Layers
+pub mod Paths
+pub mod Reverse
+pub mod Climb
+pub mod Entries
+pub mod Routes
+pub mod Rank
+pub mod Local

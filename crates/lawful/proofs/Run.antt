@@ -1,5 +1,5 @@
 -- Runs: rises, then falls, hop by hop, with the class of the message before each hop. Free is the class `true`, falling `false`.
-use mathlib.Core.Path.{_≡_, refl, sym, _∙_, ap}
+use mathlib.Core.Path.{_≡_, _∙_, ap}
 use mathlib.Core.Bool.{Bool, true, false}
 use Prim.Native.Nat.{ℕ, suc, _≤_, _<_}
 use native.Mathlib.Omega.{arith}
@@ -61,7 +61,7 @@ module _ {edge : ℕ → ℕ → Bool} {label : ℕ → ℕ} where
 
   pub hop-after : {c d : Bool} {v u : ℕ} → Hop edge label c v d u → after edge label c v u ≡ d
   unfolding after
-  hop-after (rise {v = v} {u = u} h) = and-true _ ∙ h
+  hop-after (rise h) = and-true _ ∙ h
   hop-after (fall {c = c} {v = v} {u = u} h) =
       ap (λ (b : Bool). c & b)
       (refute (rises edge label v u) (λ t.

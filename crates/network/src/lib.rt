@@ -6,10 +6,10 @@ ghost use lib.ListN.{getD};
 ghost use Rattle.finite.specs.Truth.{_or_, non};
 ghost use Rattle.finite.specs.Sum.{count};
 ghost use Rattle.finite.specs.Sets.{has, setOf};
-ghost use Rattle.graph.specs.Network.{avoid};
+ghost use Rattle.graph.specs.Network.{among, avoid};
 ghost use Rattle.graph.specs.Reach.{reach, joined, splits};
 ghost use Rattle.nodes.specs.Limits.{maxNodes};
-ghost use Rattle.network.specs.Table.{joins, linked, edgeOf, tableFrom, tableOf};
+ghost use Rattle.network.specs.Table.{joins, linked, edgeOf, tableFrom, tableOf, remaining};
 use nodes::MAX_NODES;
 
 // The byte at place i, 0 past the end.
@@ -65,22 +65,29 @@ pub fn table_of(pairs: &[u8]) -> [u64; MAX_NODES]
     t
 }
 
-// The neighbour word of u once v is struck out.
-fn struck_row(w: u64, u: usize, v: usize) -> u64
-    ensures { λ r. ⌜ r ≡ setOf maxNodes (avoid v (λ a b. has w b) u) ⌝ }
+// The neighbour word of u where only the nodes of w are kept.
+fn kept_row(row: u64, w: u64, u: usize) -> u64
+    ensures { λ r. ⌜ r ≡ setOf maxNodes (among (has w) (λ a b. has row b) u) ⌝ }
 {
-    if u == v { 0 } else { nodes::without(w, v) }
+    if nodes::has(w, u) { nodes::common(row, w) } else { 0 }
+}
+
+// A copy of the table in which only the links between nodes of w are kept.
+pub fn restrict(t: [u64; MAX_NODES], w: u64) -> [u64; MAX_NODES]
+    ensures { λ r. ⌜ r ≡ remaining (has w) (edgeOf t) ⌝ }
+{
+    let mut rest = t;
+    for u in 0..MAX_NODES {
+        rest[u] = kept_row(rest[u], w, u);
+    }
+    rest
 }
 
 // A copy of the table with v struck out: none of its links is left, in either direction.
 pub fn strike(t: [u64; MAX_NODES], v: usize) -> [u64; MAX_NODES]
     ensures { λ r. ⌜ r ≡ tableFrom (avoid v (edgeOf t)) ⌝ }
 {
-    let mut rest = t;
-    for u in 0..MAX_NODES {
-        rest[u] = struck_row(rest[u], u, v);
-    }
-    rest
+    restrict(t, nodes::without(!0, v))
 }
 
 // The nodes that walks lead to from the nodes of start.

@@ -1,9 +1,9 @@
 -- Laws of a word of n digits as a set of numbers below n: what the code's operations on words mean, and a word's members, size and lowest member.
 -- A node set is such a word, with n = maxNodes. The last laws take a set of the first n numbers to a longer word and back.
-use mathlib.Core.Path.{_≡_, sym, _∙_, ap}
+use mathlib.Core.Path.{_≡_, refl, sym, _∙_, ap}
 use mathlib.Core.Bool.{Bool, true, false}
 use Prim.Native.Nat.{ℕ, _+_, _-_, _*_, _%_, _^_, _≤_, _<_}
-use native.Mathlib.Nat.{one-mul, mod-eq-of-lt, lt-of-lt-of-le}
+use native.Mathlib.Nat.{one-mul, mod-eq-of-lt, le-of-lt, lt-of-lt-of-le}
 use native.Mathlib.Omega.{arith}
 use lib.Bits.{bitAnd, bitOr}
 use lib.Count.{ones}
@@ -12,7 +12,7 @@ use Rattle.finite.specs.Truth.{_&_, _or_, non, same, below}
 use Rattle.finite.specs.Sum.{count}
 use Rattle.finite.specs.Search.{least}
 use Rattle.finite.specs.Sets.{has, setOf, without}
-use Rattle.finite.proofs.Truth.{bcase, refute, ne-same, below-lt, below-le}
+use Rattle.finite.proofs.Truth.{bcase, refute, true-non, ne-same, below-lt, below-le, lt-below}
 use Rattle.finite.proofs.Sum.{sum-without, count-cong, count-none, count-member}
 use Rattle.finite.proofs.Search.{least-fact, least-before, least-found, least-unique, least-cong}
 use Rattle.finite.proofs.Sets.{has-lt, has-0, has-setOf, setOf-out, setOf-lt, setOf-cong, setOf-has, set-ext, set-empty, and-set, or-set, not-set, one-set, ones-count, without-other}
@@ -124,3 +124,25 @@ module _ (n m : ℕ) (p : ℕ → Bool) (l : n ≤ m) (h : (v : ℕ) → p v ≡
       let k = h v t in
       let f = least-found n p v t in
       least-unique m p (least n p) (omega arith) (λ j. least-fact n p (omega arith)) (least-before n p)
+
+-- ---- the first k of n numbers
+
+-- all ones is the set of all
+all-word : (n : ℕ) (p : ℕ → Bool) → ((v : ℕ) → v < n → p v ≡ true) → 2 ^ n - 1 ≡ setOf n p
+all-word n p h =
+    let e = not-set n 0 (pow-pos n) in
+    let s = setOf-cong n (λ v. non (has 0 v)) p (λ v l. true-non (has-0 v) ∙ sym (h v l)) in
+    omega arith
+
+pub all-has : (n v : ℕ) → v < n → has (2 ^ n - 1) v ≡ true
+all-has n v l = ap (λ (w : ℕ). has w v) (all-word n (λ u. true) (λ u k. refl)) ∙ has-setOf n (λ u. true) v l
+
+-- `(1 << k) - 1` is the set of the first k
+pub first-word : (n k : ℕ) → k < n → 1 * 2 ^ k % 2 ^ n - 1 ≡ setOf n (λ v. below v k)
+first-word n k l =
+    ap (λ (x : ℕ). x - 1) (ap (λ (x : ℕ). x % 2 ^ n) (one-mul (2 ^ k)) ∙ mod-eq-of-lt (pow-lt l))
+    ∙ all-word k (λ v. below v k) (λ v h. lt-below h) ∙ sym (setOf-within k n (λ v. below v k) (le-of-lt l) (λ v t. below-lt _ _ t))
+
+-- and `!0` that of all
+pub first-all : (n k : ℕ) → n ≤ k → 2 ^ n - 1 ≡ setOf n (λ v. below v k)
+first-all n k l = all-word n (λ v. below v k) (λ v h. lt-below (lt-of-lt-of-le h l))
