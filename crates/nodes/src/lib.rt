@@ -1,5 +1,6 @@
 // A node set is one word of 64 bits: node v is a member where bit v is set. Every function answers at every input; a number of 64 or more is in no set.
 ghost use mathlib.Core.Path.{_≡_};
+ghost use Prim.Native.Nat.{min};
 ghost use Rattle.finite.specs.Truth.{_&_, _or_, non, same, below};
 ghost use Rattle.finite.specs.Sum.{count};
 ghost use Rattle.finite.specs.Search.{least};
@@ -31,6 +32,13 @@ pub fn one(v: usize) -> u64
     ensures { λ r. ⌜ r ≡ setOf maxNodes (same v) ⌝ }
 {
     if v < MAX_NODES { 1u64 << v } else { 0 }
+}
+
+// A number of nodes, 64 at the most.
+pub fn capped(n: usize) -> usize
+    ensures { λ r. ⌜ r ≡ min n maxNodes ⌝ }
+{
+    if n < MAX_NODES { n } else { MAX_NODES }
 }
 
 // The set of the first n nodes: all 64 where n is 64 or more.

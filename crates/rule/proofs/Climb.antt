@@ -17,11 +17,12 @@ use Rattle.graph.specs.Network.{Network, Members, Connected, Walk, here, step, 
 use Rattle.graph.specs.Reach.{cut}
 use Rattle.graph.proofs.Walk.{among-edge, among-to}
 use Rattle.graph.proofs.Connected.{cut-iff}
+use Rattle.lawful.specs.Turn.{rises, Climbing}
 use Rattle.rule.specs.Candidate.{room, candidate, choice, Chosen}
 use Rattle.rule.specs.Labels.{labelIn, labelsOf, above}
 use Rattle.rule.proofs.Exists.{candidate-exists}
 use Rattle.rule.proofs.Choice.{choice-chosen, candidate-in}
-use Rattle.rule.proofs.Labels.{label, in-above, above-low, above-gt, above-connected, label-pos, label-once, labels-by-rule}
+use Rattle.rule.proofs.Labels.{label, in-above, above-low, above-gt, above-connected, label-pos, label-once, label-le, labels-by-rule}
 
 -- a walk to another node has a first link
 first-link : {edge : ℕ → ℕ → Bool} {a b : ℕ} → Walk edge a b → (a ≡ b → ⊥) → (u : ℕ) × (edge a u ≡ true)
@@ -48,6 +49,27 @@ module _ (n : ℕ) (edge : ℕ → ℕ → Bool) (net : Network n edge) (m : ℕ
       let d : l v ≡ l u → ⊥ = λ x.
       net .no-loop v (subst (λ (y : ℕ). edge v y ≡ true) (sym (label-once n edge net m small whole v u b a x)) (among-edge R edge v u f)) in
       record { at = u; low = a; fact = both (among-edge R edge v u f) (lt-below (omega arith)) }
+
+-- what lawful paths need of labels, for a network of m nodes: neighbours have different labels, and all but the top one can climb
+pub labels-climbing : (n m : ℕ) (edge : ℕ → ℕ → Bool) (net : Network m edge) (small : m ≤ n) → Connected edge (λ v. below v m)
+    → 0 < m → Climbing m edge (labelIn (labelsOf n edge m))
+unfolding rises
+labels-climbing n m edge net small whole pos =
+    let wide : Network n edge = record { undirected = net .undirected; no-loop = net .no-loop; inside = λ a b h. let k = net .inside a b h in omega arith } in
+    let (k, e) = le-dest pos in
+    let top = labels-by-rule n edge wide m small whole .given k (omega arith) in
+    record {
+      distinct = λ a b h q.
+          net .no-loop a (subst (λ (x : ℕ). edge a x ≡ true)
+          (sym (label-once n edge wide m small whole a b (net .inside b a (net .undirected a b h)) (net .inside a b h) q)) h);
+      top = top .at;
+      climbs = λ v l d.
+          let t = same-eq _ _ (top .fact) in
+          let b = label-le n edge wide m small whole v in
+          let ne : label n edge wide m small whole v ≡ m → ⊥ =
+          λ q. d (label-once n edge wide m small whole v (top .at) l (top .low) (omega arith)) in
+          label-climbs n edge wide m small whole v l (omega arith);
+    }
 
 -- ---- two remaining nodes
 
@@ -83,6 +105,7 @@ module _ (n : ℕ) (edge : ℕ → ℕ → Bool) (net : Network n edge) (R : ℕ
     where
       only : (u : ℕ) → without R a u ≡ true → b ≡ u
       only u h = ⊎-elim (λ e. absurd (without-ne R a u h e)) (λ e. e) (two u (without-in R a u h))
+
       alone : Connected edge (without R a)
       alone x y hx hy = subst (λ (z : ℕ). Walk (among (without R a) edge) x z) (sym (only x hx) ∙ only y hy) here
 

@@ -1,0 +1,4 @@
+pub mod Members
+pub mod Better
+pub mod Remaining
+pub mod Giving

@@ -1,0 +1,20 @@
+-- `labels::given` meets its contract: a node that is none gets no label.
+use borrow.Author.Needs.{needs}
+use Rattle.finite.proofs.Truth.{lt-below, le-below}
+use Rattle.rule.specs.Labels.{give}
+use Rattle.labels.proofs.given.Statement.{statement}
+use Rattle.labels.proofs.given.Tie as tie
+
+array-write-next : tie.Need-array-write-next
+array-write-next c = search needs
+
+returns : tie.Need-returns
+unfolding give
+returns c = rw (lt-below (c .if1 .taken), give)
+
+returns-2 : tie.Need-returns-2
+unfolding give
+returns-2 c = rw (le-below (c .if1 .left), give)
+
+pub given-spec : {M : Type 1} → statement M
+given-spec = tie.close (tie.spec array-write-next returns returns-2)

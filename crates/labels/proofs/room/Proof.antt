@@ -1,0 +1,121 @@
+-- `labels::room` meets its contract: the sum over the links, taken one by one.
+use mathlib.Core.Path.{_≡_, sym, _∙_, ap, ap₂}
+use mathlib.Core.List.{List}
+use Prim.Native.Nat.{ℕ, _+_, _*_, _-_, _≤_}
+use native.Mathlib.Nat.{zero-add, mul-le-mul}
+use native.Mathlib.Omega.{arith}
+use lib.Dec.{leb}
+use lib.ListN.{getD}
+use Rattle.finite.specs.Sum.{sumTo, count, sumIf}
+use Rattle.finite.specs.Sets.{has}
+use Rattle.finite.proofs.Sum.{count-bound}
+use Rattle.nodes.specs.Limits.{maxNodes}
+use Rattle.nodes.proofs.Words.{next-less}
+use Rattle.network.specs.Table.{edgeOf}
+use Rattle.labels.specs.Links.{roomBy}
+use Rattle.labels.proofs.Members.{Summing, summing-more, summing-all, sum-bound}
+use Rattle.labels.proofs.room.Statement.{statement}
+use Rattle.labels.proofs.room.Tie as tie
+
+-- what each neighbour adds: its degree minus 1
+abbrev around : List ℕ → ℕ → ℕ
+around t u = count maxNodes (edgeOf t u) - 1
+
+around-le : (t : List ℕ) (u : ℕ) → around t u ≤ maxNodes
+around-le t u = let b = count-bound maxNodes (edgeOf t u) in omega arith
+
+sum-start : (t : List ℕ) (v : ℕ) {w : ℕ} → w ≡ getD t v 0 → 0 + sumIf maxNodes (has w) (around t) ≡ sumIf maxNodes (edgeOf t v) (around t)
+unfolding edgeOf
+sum-start t v e = zero-add _ ∙ ap (λ (x : ℕ). sumIf maxNodes (has x) (around t)) e
+
+abbrev Inv-loop : tie.InvT-loop
+Inv-loop t v d sum₀ left₀ sum left = Summing maxNodes (around t) (sumIf maxNodes (edgeOf t v) (around t)) sum left
+
+abbrev μ-loop : tie.MeasureT-loop
+μ-loop t v d sum₀ left₀ sum left = left
+
+degree-requires : tie.Need-degree-requires Inv-loop μ-loop
+degree-requires c κs = tt
+
+row-requires : tie.Need-row-requires Inv-loop μ-loop
+row-requires c κs = tt
+
+loop-holds : tie.Need-loop-holds Inv-loop μ-loop
+loop-holds c = (sum-start _ _ (c .row .ensures), omega arith)
+
+lowest-requires : tie.Need-lowest-requires Inv-loop μ-loop
+lowest-requires c κs = tt
+
+degree-requires-2 : tie.Need-degree-requires-2 Inv-loop μ-loop
+degree-requires-2 c κs = tt
+
+less-one-requires : tie.Need-less-one-requires Inv-loop μ-loop
+less-one-requires c κs = tt
+
+add-sum : tie.Need-add-sum Inv-loop μ-loop
+add-sum c =
+    let l = c .before .before .before .before in
+    let t : List ℕ = l .before .before .before .before .args .t .now in
+    let v : ℕ = l .before .before .before .before .args .v in
+    let b = sum-bound maxNodes maxNodes (edgeOf t v) (around t) (around-le t) in
+    let d = count-bound maxNodes (edgeOf t (c .before .before .lowest .result)) in
+    let e = c .less-one .ensures in
+    let f = c .before .degree2 .ensures in
+    let i = l .loop .inv .0 in
+    omega arith
+
+without-requires : tie.Need-without-requires Inv-loop μ-loop
+without-requires c κs = tt
+
+loop-less : tie.Need-loop-less Inv-loop μ-loop
+loop-less c =
+    let l = c .before .before .before .before .before in
+    next-less maxNodes (l .loop .inv .1) (c .before .before .before .before .loop-test .taken) (c .before .before .before .lowest .ensures) (c .without .ensures)
+
+loop-again : tie.Need-loop-again Inv-loop μ-loop
+loop-again c =
+    let l = c .before .before .before .before .before in
+    summing-more maxNodes (around (l .before .before .before .before .args .t .now)) _ (l .loop .sum) (l .loop .left) (l .loop .inv)
+    (c .before .before .before .before .loop-test .taken) (c .before .before .before .lowest .ensures)
+    (c .before .less-one .ensures ∙ ap (λ (x : ℕ). x - 1) (c .before .before .degree2 .ensures)) (c .without .ensures) (omega arith)
+
+less-one-requires-2 : tie.Need-less-one-requires-2 Inv-loop μ-loop
+less-one-requires-2 c κs = tt
+
+mul-result : tie.Need-mul-result Inv-loop μ-loop
+mul-result c =
+    let d = c .before .before .before .before in
+    let t : List ℕ = d .before .before .args .t .now in
+    let b = count-bound maxNodes (edgeOf t (d .before .before .args .v)) in
+    let e = d .degree .ensures in
+    let f = c .less-one2 .ensures in
+    let m = mul-le-mul {n₁ = d .degree .result} {m₁ = c .less-one2 .result} {n₂ = maxNodes} {m₂ = maxNodes} (omega arith) (omega arith) in
+    omega arith
+
+returns : tie.Need-returns Inv-loop μ-loop
+unfolding roomBy
+returns c =
+    let d = c .before .before .before .before in
+    let l = c .before .before in
+    ap₂ leb (ap₂ _*_ (d .degree .ensures) (c .less-one2 .ensures ∙ ap (λ (x : ℕ). x - 1) (d .degree .ensures)))
+    (summing-all maxNodes _ _ _ _ (l .loop .inv) (c .before .loop-test .left))
+
+pub room-spec : {M : Type 1} → statement M
+room-spec =
+    tie.close
+    (tie.spec
+    Inv-loop
+    μ-loop
+    degree-requires
+    row-requires
+    loop-holds
+    lowest-requires
+    degree-requires-2
+    less-one-requires
+    add-sum
+    without-requires
+    loop-less
+    loop-again
+    less-one-requires-2
+    mul-result
+    returns)

@@ -1,0 +1,104 @@
+// The labelling rule: labels 1, 2, .. in order, each to the least candidate of what remains.
+ghost use mathlib.Core.Path.{_≡_};
+ghost use Prim.Native.Nat.{_-_, min};
+ghost use Rattle.finite.specs.Sum.{count};
+ghost use Rattle.finite.specs.Sets.{has};
+ghost use Rattle.nodes.specs.Limits.{maxNodes};
+ghost use Rattle.network.specs.Table.{edgeOf};
+ghost use Rattle.rule.specs.Labels.{give, labelsOf};
+ghost use Rattle.labels.specs.Links.{roomBy, candidateBy, choiceBy};
+ghost use Rattle.labels.specs.Search.{better};
+use nodes::MAX_NODES;
+
+// One less, and 0 for 0.
+fn less_one(x: usize) -> usize
+    ensures { λ r. ⌜ r ≡ x - 1 ⌝ }
+{
+    if x == 0 { 0 } else { x - 1 }
+}
+
+// d(d-1) ≤ the sum over v's links of (the other end's degree minus 1).
+pub fn room(t: &[u64], v: usize) -> bool
+    ensures { λ r. ⌜ r ≡ roomBy maxNodes (edgeOf (now (t .entry))) v ⌝ }
+{
+    let d = network::degree(t, v);
+    let mut sum: usize = 0;
+    let mut left = network::row(t, v);
+    while left != 0 {
+        let u = nodes::lowest(left);
+        sum += less_one(network::degree(t, u));
+        left = nodes::without(left, u);
+    }
+    d * less_one(d) <= sum
+}
+
+// The best candidate so far, 65 and 64 where there is none.
+pub struct Best {
+    pub degree: usize,
+    pub node: usize,
+}
+
+// The better of the best so far and v: v where it is a candidate of a lower degree.
+fn better_of(t: [u64; MAX_NODES], w: u64, v: usize, best: Best) -> Best
+    ensures { λ r. ⌜ r ≡ better (λ u. count maxNodes (edgeOf t u)) (candidateBy maxNodes (edgeOf t) (has w)) v best ⌝ }
+{
+    let d = network::degree(&t, v);
+    if best.degree <= d {
+        return best;
+    }
+    if !nodes::has(w, v) {
+        return best;
+    }
+    if !room(&t, v) {
+        return best;
+    }
+    if network::splits(t, w, v) {
+        return best;
+    }
+    Best { degree: d, node: v }
+}
+
+// The candidate of least degree, lowest number first, among the nodes of w; 64 where there is none.
+pub fn choice(t: [u64; MAX_NODES], w: u64) -> usize
+    ensures { λ r. ⌜ r ≡ choiceBy maxNodes (edgeOf t) (has w) ⌝ }
+{
+    let mut best = Best {
+        degree: 65,
+        node: 64,
+    };
+    for v in 0..MAX_NODES {
+        let next = better_of(t, w, v, best);
+        best = next;
+    }
+    best.node
+}
+
+// The labels with label k for node v; as they are where v is no node.
+fn given(labels: [u8; MAX_NODES], v: usize, k: u8) -> [u8; MAX_NODES]
+    ensures { λ r. ⌜ r ≡ give maxNodes v k labels ⌝ }
+{
+    let mut next = labels;
+    if v < MAX_NODES {
+        next[v] = k;
+    }
+    next
+}
+
+// The labels of the first n nodes, 0 elsewhere. Of an n above 64 only 64 count.
+pub fn labels(t: [u64; MAX_NODES], n: usize) -> [u8; MAX_NODES]
+    ensures { λ r. ⌜ r ≡ labelsOf maxNodes (edgeOf t) (min n maxNodes) ⌝ }
+{
+    let m = nodes::capped(n);
+    let mut w = nodes::first(m);
+    let mut rest = network::restrict(t, w);
+    let mut out = [0u8; MAX_NODES];
+    for k in 0..m {
+        let v = choice(rest, w);
+        let more = given(out, v, (k + 1) as u8);
+        out = more;
+        let less = network::strike(rest, v);
+        rest = less;
+        w = nodes::without(w, v);
+    }
+    out
+}
