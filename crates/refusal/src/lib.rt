@@ -27,6 +27,12 @@ pub enum Refusal {
     Messages,
 }
 
+// What a check finds: nothing, or the first fault.
+pub enum Verdict {
+    Fine,
+    Fault(Refusal),
+}
+
 pub fn number(r: Refusal) -> usize
     ensures { λ n. ⌜ n ≡ numberOf r ⌝ }
 {

@@ -1,0 +1,2 @@
+pub mod Cabling
+pub mod Faults

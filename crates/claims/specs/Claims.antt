@@ -1,0 +1,45 @@
+-- Claimants 0 .. k - 1, each with an itinerary: the resources it takes, one after the other, and gives back all together when it is done.
+use mathlib.Core.Path.{_≡_}
+use mathlib.Core.Bool.{Bool, true, false}
+use mathlib.Core.List.{List}
+use Prim.Native.Nat.{ℕ, _+_, _≤_, _<_}
+use lib.ListN.{length, getD}
+use Rattle.finite.specs.Truth.{_&_, non, same}
+use Rattle.finite.specs.Sum.{sumTo, when}
+use Rattle.finite.specs.Search.{any}
+
+-- how many resources each claimant has taken so far, and whether it is done
+pub record Progress : Type 0 where
+  pub taken : ℕ → ℕ
+  pub done : ℕ → Bool
+
+-- resource r is among the first j of the itinerary
+unfoldable pub among : List ℕ → ℕ → ℕ → Bool
+among itinerary j r = any j (λ i. same (getD itinerary i 0) r)
+
+-- claimant m holds r: it has taken it and is not done
+unfoldable pub holds : (ℕ → List ℕ) → Progress → ℕ → ℕ → Bool
+holds itinerary s m r = non (s .done m) & among (itinerary m) (s .taken m) r
+
+-- the steps that can be made: take the next resource when nobody holds it, or be done when there is none to take
+pub data CanStep (k : ℕ) (itinerary : ℕ → List ℕ) (s : Progress) (m : ℕ) : Type 0 where
+  take : s .done m ≡ false → s .taken m < length (itinerary m)
+      → ((c : ℕ) → c < k → holds itinerary s c (getD (itinerary m) (s .taken m) 0) ≡ false) → CanStep k itinerary s m
+  finish : s .done m ≡ false → s .taken m ≡ length (itinerary m) → CanStep k itinerary s m
+
+-- ranks rise strictly along each itinerary
+abbrev pub Rising : ℕ → (ℕ → List ℕ) → (ℕ → ℕ) → Type 0
+Rising k itinerary rank =
+    (m : ℕ) → m < k → (i j : ℕ) → i < j → j < length (itinerary m) → rank (getD (itinerary m) i 0) < rank (getD (itinerary m) j 0)
+
+-- nobody has taken more than there is, and who is done has taken all
+pub record Lawful (k : ℕ) (itinerary : ℕ → List ℕ) (s : Progress) : Type 0 where
+  pub within : (m : ℕ) → m < k → s .taken m ≤ length (itinerary m)
+  pub finished : (m : ℕ) → m < k → s .done m ≡ true → s .taken m ≡ length (itinerary m)
+
+-- the steps made, and the steps there are
+unfoldable pub made : ℕ → Progress → ℕ
+made k s = sumTo k (λ m. s .taken m + when (s .done m) 1)
+
+unfoldable pub whole : ℕ → (ℕ → List ℕ) → ℕ
+whole k itinerary = sumTo k (λ m. length (itinerary m) + 1)

@@ -1,0 +1,110 @@
+-- 01, "The drain machine": what one move answers and what it leaves. Reads past an array give 0 and stores there change nothing, so this says something
+-- of every record.
+use mathlib.Core.Bool.{Bool, true, false}
+use mathlib.Core.List.{List, map}
+use Prim.Native.Nat.{ℕ, suc, _+_, _*_, _-_, min}
+use lib.Dec.{eqb}
+use lib.ListN.{getD, set}
+use Rattle.finite.specs.Truth.{_&_, _or_, non, same, below}
+use Rattle.refusal.specs.declared.Refusal.the-variants.{Unknown}
+use Rattle.machine.specs.declared.Record.{Record}
+use Rattle.machine.specs.declared.Answer.{Answer}
+use Rattle.machine.specs.declared.Answer.the-variants.{Already, Moved, Blocked, Delivered, Refused}
+use Rattle.machine.specs.declared.Stepped.{Stepped}
+
+-- where message m is, where it is going, and whether it is falling
+abbrev pub head : Record → ℕ → ℕ
+head r m = getD (r .heads) m 0
+
+abbrev pub target : Record → ℕ → ℕ
+target r m = getD (r .targets) m 0
+
+unfoldable pub isFalling : Record → ℕ → Bool
+isFalling r m = non (same (getD (r .classes) m 0) 0)
+
+unfoldable pub isDelivered : Record → ℕ → Bool
+isDelivered r m = non (same (getD (r .delivered) m 0) 0)
+
+-- the node after its head: the entry of its class's table
+unfoldable pub nextNode : Record → ℕ → ℕ
+nextNode r m =
+    elim (isFalling r m) [
+      true ↦ getD (r .falling) (head r m * r .nodes + target r m) 0
+    | false ↦ getD (r .free) (head r m * r .nodes + target r m) 0
+    ]
+
+-- "Each link makes two channels, one a direction."
+abbrev pub channel : ℕ → ℕ → ℕ
+channel a b = 64 * a + b
+
+abbrev pub nextChannel : Record → ℕ → ℕ
+nextChannel r m = channel (head r m) (nextNode r m)
+
+-- 0, or one more than the message that holds the channel
+abbrev pub holder : Record → ℕ → ℕ
+holder r c = getD (r .holders) c 0
+
+-- "A message starts free and becomes falling after its first fall."
+unfoldable pub classAfter : Record → ℕ → ℕ
+classAfter r m =
+    elim (isFalling r m or below (getD (r .labels) (nextNode r m) 0) (getD (r .labels) (head r m) 0)) [ true ↦ 1 | false ↦ 0 ]
+
+-- "Moved and delivered count one successful move each"; a count that is full stays full
+abbrev pub counted : ℕ → ℕ
+counted moves = min (moves + 1) 18446744073709551615
+
+-- a channel that m holds is given back
+unfoldable pub released : ℕ → ℕ → ℕ
+released m h = elim (eqb h (suc m)) [ true ↦ 0 | false ↦ h ]
+
+-- "it takes that one channel"
+unfoldable pub moved : Record → ℕ → Record
+moved r m = record {
+  nodes = r .nodes;
+  messages = r .messages;
+  moves = counted (r .moves);
+  labels = r .labels;
+  free = r .free;
+  falling = r .falling;
+  targets = r .targets;
+  heads = set (r .heads) m (nextNode r m);
+  classes = set (r .classes) m (classAfter r m);
+  delivered = r .delivered;
+  holders = set (r .holders) (nextChannel r m) (suc m)
+}
+
+-- "it is delivered and gives back all its channels"
+unfoldable pub arrived : Record → ℕ → Record
+arrived r m = record {
+  nodes = r .nodes;
+  messages = r .messages;
+  moves = counted (r .moves);
+  labels = r .labels;
+  free = r .free;
+  falling = r .falling;
+  targets = r .targets;
+  heads = r .heads;
+  classes = r .classes;
+  delivered = set (r .delivered) m 1;
+  holders = map (released m) (r .holders)
+}
+
+-- one move of message m
+unfoldable pub stepOf : Record → ℕ → Stepped
+stepOf r m =
+    elim (below m (r .messages) & below m 256) [
+      false ↦ record { «record» = r; answer = Refused (Unknown 0) }
+    | true ↦
+      elim (isDelivered r m) [
+        true ↦ record { «record» = r; answer = Already }
+      | false ↦
+        elim (same (head r m) (target r m)) [
+          true ↦ record { «record» = arrived r m; answer = Delivered }
+        | false ↦
+          elim (same (holder r (nextChannel r m)) 0) [
+            true ↦ record { «record» = moved r m; answer = Moved }
+          | false ↦ record { «record» = r; answer = Blocked (holder r (nextChannel r m) - 1) }
+          ]
+        ]
+      ]
+    ]

@@ -1,0 +1,23 @@
+-- `turns::one_lower` meets its contract: the label of u is below x, or it is not.
+use mathlib.Core.Path.{_∙_}
+use native.Mathlib.Omega.{arith}
+use borrow.Author.Needs.{needs}
+use Rattle.finite.proofs.Truth.{lt-below, le-below}
+use Rattle.turns.proofs.Sift.{one-passes, one-fails}
+use Rattle.turns.proofs.one_lower.Statement.{statement}
+use Rattle.turns.proofs.one_lower.Tie as tie
+
+byte-at-requires : tie.Need-byte-at-requires
+byte-at-requires c κs = search needs
+
+one-requires : tie.Need-one-requires
+one-requires c κs = search needs
+
+returns : tie.Need-returns
+returns c = c .one .ensures ∙ one-passes _ _ (lt-below (omega arith))
+
+returns-2 : tie.Need-returns-2
+returns-2 c = one-fails _ _ (le-below (omega arith))
+
+pub one-lower-spec : {M : Type 1} → statement M
+one-lower-spec = tie.close (tie.spec byte-at-requires one-requires returns returns-2)
