@@ -1,0 +1,57 @@
+-- The one statement over the table of worked networks: every entry is right. One test, computed over the whole table, and one law that turns it into words.
+use mathlib.Core.Path.{_≡_, refl, ap₂, subst⁻¹}
+use mathlib.Core.Bool.{Bool, true, false}
+use mathlib.Core.List.{List, [], _∷_, List·Memᴰ, List·Memᴰ·cases-cons, List·Memᴰ·not-nil}
+use mathlib.Core.Logic.{⊎-elim}
+use Prim.Native.Nat.{ℕ}
+use lib.Dec.{eqb}
+use borrow.Author.Tests.{eqb-true}
+use Rattle.finite.specs.Truth.{_&_, _or_, non, same, below}
+use Rattle.finite.specs.Sum.{sumTo}
+use Rattle.finite.specs.Search.{any, all, least, leastValue, lowestAt, leastBy}
+use Rattle.finite.specs.Sets.{has, setOf, without}
+use Rattle.finite.specs.Lists.{upFrom, tabulate}
+use Rattle.finite.proofs.Truth.{no-tf, and-l, and-r}
+use Rattle.graph.specs.Network.{among, degree}
+use Rattle.graph.specs.Reach.{grow, spread, reach, covers, joined, connected, cut}
+use Rattle.network.specs.Table.{joins, linkedBy, linked, edgeOf}
+use Rattle.lawful.specs.Turn.{prohibited}
+use Rattle.rule.specs.Candidate.{room, candidate, choice}
+use Rattle.rule.specs.Labels.{remains, give, stage, labelled, labelsOf}
+use Rattle.turns.specs.Turns.{turnsThat}
+use Rattle.worked.specs.Networks.{Worked, worked}
+use Rattle.worked.specs.Right.{Right, alike, isRight, allRight}
+
+pub alike-eq : (xs ys : List ℕ) → alike xs ys ≡ true → xs ≡ ys
+unfolding alike
+alike-eq [] [] h = refl
+alike-eq [] (y ∷ ys) h = no-tf h refl
+alike-eq (x ∷ xs) [] h = no-tf h refl
+alike-eq (x ∷ xs) (y ∷ ys) h = ap₂ _∷_ (eqb-true x y (and-l _ _ h)) (alike-eq xs ys (and-r _ _ h))
+
+right : (e : Worked) → isRight e ≡ true → Right e
+unfolding isRight
+right e h =
+    let h₁ = and-r _ _ h in
+    let h₂ = and-r _ _ h₁ in
+    let h₃ = and-r _ _ h₂ in
+    record {
+      words = alike-eq _ _ (and-l _ _ h);
+      labels = alike-eq _ _ (and-l _ _ h₁);
+      turns = eqb-true _ _ (and-l _ _ h₂);
+      prohibited = eqb-true _ _ (and-l _ _ h₃);
+      first = eqb-true _ _ (and-r _ _ h₃);
+    }
+
+all-right : (l : List Worked) → allRight l ≡ true → (e : Worked) → List·Memᴰ e l → Right e
+unfolding allRight
+all-right [] h e m = absurd (List·Memᴰ·not-nil m)
+all-right (x ∷ l) h e m =
+    ⊎-elim (λ q. subst⁻¹ Right q (right x (and-l _ _ h))) (λ q. all-right l (and-r _ _ h) e q) (List·Memᴰ·cases-cons m)
+
+computed : allRight worked ≡ true
+unfolding _&_ _or_ non same below sumTo any all least leastValue lowestAt leastBy has setOf without upFrom tabulate among degree grow spread reach covers joined connected cut joins linkedBy linked edgeOf prohibited room candidate choice remains give stage labelled labelsOf turnsThat alike isRight allRight
+computed = refl
+
+pub every-right : (e : Worked) → List·Memᴰ e worked → Right e
+every-right = all-right worked computed

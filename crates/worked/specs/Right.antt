@@ -1,0 +1,50 @@
+-- What is right of a worked network: in words, and as a test that is computed.
+use mathlib.Core.Path.{_≡_}
+use mathlib.Core.Bool.{Bool, true, false}
+use mathlib.Core.List.{List, [], _∷_, _++_}
+use Prim.Native.Nat.{ℕ}
+use lib.Dec.{eqb}
+use lib.ListN.{length}
+use Rattle.finite.specs.Truth.{_&_, below}
+use Rattle.finite.specs.Sets.{setOf}
+use Rattle.finite.specs.Lists.{tabulate}
+use Rattle.network.specs.Table.{linked, edgeOf}
+use Rattle.rule.specs.Candidate.{choice}
+use Rattle.rule.specs.Labels.{labelIn, labelsOf}
+use Rattle.turns.specs.Turns.{allTurns, prohibitedTurns}
+use Rattle.worked.specs.Networks.{Worked}
+
+-- the neighbour words are those of the pairs, and labels, T, W and the first node are what the rules give
+pub record Right (e : Worked) : Type 0 where
+  pub words : tabulate (e .nodes) (λ a. setOf (e .nodes) (linked (e .pairs) a)) ≡ e .words
+  pub labels : labelsOf (e .nodes) (edgeOf (e .words)) (e .nodes) ≡ e .labels
+  pub turns : allTurns (e .nodes) (edgeOf (e .words)) ≡ e .turns
+  pub prohibited : prohibitedTurns (e .nodes) (edgeOf (e .words)) (labelIn (e .labels)) ≡ e .prohibited
+  pub first : choice (e .nodes) (edgeOf (e .words)) (λ v. below v (e .nodes)) ≡ e .first
+
+-- two lists of numbers are the same
+unfoldable pub alike : List ℕ → List ℕ → Bool
+alike [] [] = true
+alike [] (y ∷ ys) = false
+alike (x ∷ xs) [] = false
+alike (x ∷ xs) (y ∷ ys) = eqb x y & alike xs ys
+
+unfoldable pub isRight : Worked → Bool
+isRight e =
+    alike (tabulate (e .nodes) (λ a. setOf (e .nodes) (linked (e .pairs) a))) (e .words)
+    & alike (labelsOf (e .nodes) (edgeOf (e .words)) (e .nodes)) (e .labels)
+    & eqb (allTurns (e .nodes) (edgeOf (e .words))) (e .turns)
+    & eqb (prohibitedTurns (e .nodes) (edgeOf (e .words)) (labelIn (e .labels))) (e .prohibited)
+    & eqb (choice (e .nodes) (edgeOf (e .words)) (λ v. below v (e .nodes))) (e .first)
+
+unfoldable pub allRight : List Worked → Bool
+allRight [] = true
+allRight (e ∷ l) = isRight e & allRight l
+
+-- the table as bytes: of each entry the number of nodes, the number of pair bytes, the pairs, the labels, T, W and the first node
+abbrev pub bytesOf : Worked → List ℕ
+bytesOf e = e .nodes ∷ length (e .pairs) ∷ e .pairs ++ e .labels ++ (e .turns ∷ e .prohibited ∷ e .first ∷ [])
+
+abbrev pub flat : List Worked → List ℕ
+flat [] = []
+flat (e ∷ l) = bytesOf e ++ flat l
