@@ -1,0 +1,117 @@
+//! The networks worked by hand, and the refusals listed beside them.
+
+use super::cabling::{complete, hall, path, ring, star, Cabling};
+use super::limits::too_many_pairs;
+use super::pack::*;
+use super::Case;
+
+/// The worked networks that are accepted.
+pub fn networks() -> Vec<Cabling> {
+    vec![
+        path(2),
+        complete(3),
+        path(3),
+        ring(4),
+        star(3),
+        complete(4),
+        hall(),
+    ]
+}
+
+/// The messages worked on the ring.
+pub fn ring_messages() -> Vec<u8> {
+    list(&[(0, 2), (1, 3), (2, 0), (3, 1)])
+}
+
+pub fn cases() -> Vec<Case> {
+    let mut cases = Vec::new();
+    for cabling in networks() {
+        let last = cabling.nodes - 1;
+        let messages = list(&[(0, last), (last, 0), (1, 0), (0, 1), (last, 1), (1, 1)]);
+        cases.extend(network_cases("worked", &cabling, &messages, 0));
+        cases.extend(writes(&cabling));
+        cases.extend(routes(&cabling));
+        cases.extend(rows(&cabling));
+    }
+    cases.extend(ring_drains());
+    cases.extend(listed_refusals());
+    cases
+}
+
+fn writes(cabling: &Cabling) -> Vec<Case> {
+    let pairs = cabling.pair_bytes();
+    let rooms = [(0, links_length(cabling)), (1, full_length(cabling))];
+    let case = |(full, room)| write_call(cabling.nodes, full, &pairs, room);
+    let inputs = rooms.map(case);
+    inputs.map(|i| Case::new("worked", "calls", i)).to_vec()
+}
+
+/// All routes of a small network, and those of two nodes of a larger one.
+fn routes(cabling: &Cabling) -> Vec<Case> {
+    let image = cabling.full_image();
+    let sources = cabling.nodes.min(4);
+    let from = |s: usize| (0..cabling.nodes).map(move |d| (s, d));
+    (0..sources)
+        .flat_map(from)
+        .map(|(s, d)| route_call(&image, s, d, cabling.nodes + 1))
+        .map(|input| Case::new("worked", "calls", input))
+        .collect()
+}
+
+/// Both rows of each node, out of the full image's own tables.
+fn rows(cabling: &Cabling) -> Vec<Case> {
+    let (nodes, image) = (cabling.nodes, cabling.full_image());
+    let (front, falling) = image.split_at(image.len() - nodes * nodes);
+    let free = &front[front.len() - nodes * nodes..];
+    let from = |v: usize| [(v, 0), (v, 1)];
+    (0..nodes)
+        .flat_map(from)
+        .map(|(v, class)| row_call(free, falling, [nodes, v, class]))
+        .map(|input| Case::new("worked", "calls", input))
+        .collect()
+}
+
+/// The ring's four messages from several seeds, and no messages at all.
+fn ring_drains() -> Vec<Case> {
+    let image = ring(4).full_image();
+    let mut cases = Vec::new();
+    for seed in [0, 1, 2, 3, 65_535, 65_536, 0x7FFF_FFFF, u32::MAX] {
+        let input = drain_input(&image, seed, &ring_messages());
+        cases.push(Case::new("worked", "calls", trace_call(&input)));
+        cases.push(Case::new("worked", "drain", input));
+    }
+    let none = drain_input(&image, 0, &[]);
+    cases.push(Case::new("worked", "drain", none));
+    let all: Vec<usize> = (0..4).cycle().take(28).collect();
+    let steps = steps_call(&image, &ring_messages(), &all);
+    cases.push(Case::new("worked", "calls", steps));
+    cases
+}
+
+fn listed_refusals() -> Vec<Case> {
+    let images = [
+        vec![],
+        Cabling::raw(1, &[]).links_image(),
+        path(65).links_image(),
+        path(64).links_image(),
+        too_many_pairs().links_image(),
+        Cabling::raw(2, &[(1, 0)]).links_image(),
+        Cabling::raw(3, &[(0, 1), (0, 1), (1, 2)]).links_image(),
+        star(16).links_image(),
+        star(17).links_image(),
+        Cabling::raw(4, &[(0, 1), (2, 3)]).links_image(),
+    ];
+    let programs = |image: &Vec<u8>| {
+        let drain = drain_input(image, 7, &list(&[(0, 1), (1, 0)]));
+        [
+            Case::new("worked", "build", image.clone()),
+            Case::new("worked", "show", image.clone()),
+            Case::new("worked", "drain", drain),
+            Case::new("worked", "calls", read_call(image, 1_100)),
+        ]
+    };
+    let mut cases: Vec<Case> = images.iter().flat_map(programs).collect();
+    cases.push(Case::new("worked", "drain", vec![]));
+    cases.push(Case::new("worked", "calls", vec![]));
+    cases
+}

@@ -1,0 +1,106 @@
+//! The drain machine: a record of messages with their routes and of the
+//! channels that are held, its start, and the move of one message.
+
+use crate::calls::accept;
+use crate::network::pairs_of;
+use crate::refusal::{refusal, Refusal};
+use crate::rows::follow;
+use std::collections::BTreeMap;
+
+/// The longest list of messages, in bytes.
+pub const LONGEST_LIST: usize = 512;
+
+/// One direction of a link: from, to.
+type Channel = (usize, usize);
+
+#[derive(Clone, Debug, PartialEq, Eq)]
+struct Message {
+    route: Vec<usize>,
+    at: usize,
+    delivered: bool,
+}
+
+/// The record that start fills and moves change.
+#[derive(Clone, Debug, Default, PartialEq, Eq)]
+pub struct Record {
+    messages: Vec<Message>,
+    holders: BTreeMap<Channel, usize>,
+    moves: usize,
+}
+
+/// What a move answers.
+#[derive(Clone, Copy, Debug, PartialEq, Eq)]
+pub enum Answer {
+    Already,
+    Moved,
+    Blocked(usize),
+    Delivered,
+}
+
+impl Message {
+    fn next_channel(&self) -> Option<Channel> {
+        let to = self.route.get(self.at + 1)?;
+        Some((self.route[self.at], *to))
+    }
+}
+
+impl Record {
+    /// Fills the record anew from an image and a list of byte pairs.
+    pub fn start(&mut self, image: &[u8], list: &[u8]) -> Result<(), Refusal> {
+        let (fabric, _) = accept(image)?;
+        if !list.len().is_multiple_of(2) || list.len() > LONGEST_LIST {
+            return Err(refusal(11, 0));
+        }
+        let nodes = fabric.network.nodes();
+        let ends = pairs_of(list);
+        if let Some(place) = ends.iter().position(|&(s, d)| s >= nodes || d >= nodes) {
+            return Err(refusal(10, place));
+        }
+        let message = |&(source, destination): &(usize, usize)| Message {
+            route: follow(&fabric.tables, &fabric.labels, source, destination),
+            at: 0,
+            delivered: false,
+        };
+        *self = Record {
+            messages: ends.iter().map(message).collect(),
+            holders: BTreeMap::new(),
+            moves: 0,
+        };
+        Ok(())
+    }
+
+    /// Moves one message, if it can.
+    pub fn step(&mut self, number: usize) -> Result<Answer, Refusal> {
+        let message = self.messages.get_mut(number).ok_or(refusal(10, 0))?;
+        if message.delivered {
+            return Ok(Answer::Already);
+        }
+        let Some(channel) = message.next_channel() else {
+            message.delivered = true;
+            self.holders.retain(|_, holder| *holder != number);
+            self.moves += 1;
+            return Ok(Answer::Delivered);
+        };
+        if let Some(&holder) = self.holders.get(&channel) {
+            return Ok(Answer::Blocked(holder));
+        }
+        message.at += 1;
+        self.holders.insert(channel, number);
+        self.moves += 1;
+        Ok(Answer::Moved)
+    }
+
+    /// The number of messages.
+    pub fn messages(&self) -> usize {
+        self.messages.len()
+    }
+
+    /// The successful moves since the start.
+    pub fn moves(&self) -> usize {
+        self.moves
+    }
+
+    pub fn all_delivered(&self) -> bool {
+        self.messages.iter().all(|message| message.delivered)
+    }
+}

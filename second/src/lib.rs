@@ -1,0 +1,13 @@
+//! The second program: images, labels, rows, routes, the drain machine and
+//! the programs of the scope paper, and the cases for the comparison.
+
+pub mod calls;
+pub mod cases;
+pub mod drain;
+pub mod image;
+pub mod label;
+pub mod network;
+pub mod programs;
+pub mod protocol;
+pub mod refusal;
+pub mod rows;

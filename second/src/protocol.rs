@@ -1,0 +1,212 @@
+//! The program `calls`: one call out of a binary input, its answer as text.
+
+use crate::calls::{build, read, route, write};
+use crate::drain::{Answer, Record};
+use crate::image::{entry, Entry, Walker};
+use crate::programs::{drained, listed};
+use crate::refusal::{refusal, Refusal};
+use crate::rows::{hop, row};
+
+/// The most that is read.
+pub const MOST_CALL: usize = 131_072;
+
+/// The output for a call; `bad call` where the input is not one.
+pub fn calls(input: &[u8]) -> Vec<u8> {
+    let front = &input[..input.len().min(MOST_CALL)];
+    let text = call(front).unwrap_or("bad call\n".into());
+    text.into_bytes()
+}
+
+fn call(input: &[u8]) -> Option<String> {
+    let (selector, rest) = input.split_first()?;
+    let arguments = Arguments { rest };
+    match selector {
+        0 => entry_call(arguments),
+        1 => walk_call(arguments),
+        2 => row_call(arguments),
+        3 => hop_call(arguments),
+        4 => route_call(arguments),
+        5 => read_call(arguments),
+        6 => write_call(arguments),
+        7 => build_call(arguments),
+        8 => steps_call(arguments),
+        9 => trace_call(arguments),
+        _ => None,
+    }
+}
+
+/// The arguments not yet taken.
+struct Arguments<'a> {
+    rest: &'a [u8],
+}
+
+impl<'a> Arguments<'a> {
+    fn fixed<const K: usize>(&mut self) -> Option<[u8; K]> {
+        let (taken, rest) = self.rest.split_first_chunk()?;
+        self.rest = rest;
+        Some(*taken)
+    }
+
+    fn number(&mut self) -> Option<usize> {
+        let two = self.fixed()?;
+        Some(usize::from(u16::from_le_bytes(two)))
+    }
+
+    fn long_number(&mut self) -> Option<u64> {
+        self.fixed().map(u64::from_le_bytes)
+    }
+
+    fn bytes(&mut self) -> Option<&'a [u8]> {
+        let length = self.number()?;
+        let (taken, rest) = self.rest.split_at_checked(length)?;
+        self.rest = rest;
+        Some(taken)
+    }
+
+    /// A lent buffer with its first content.
+    fn buffer(&mut self) -> Option<Vec<u8>> {
+        let length = self.number()?;
+        Some((0..length).map(|i| (i * 7 + 13) as u8).collect())
+    }
+
+    /// Nothing may be left over.
+    fn end(self) -> Option<()> {
+        self.rest.is_empty().then_some(())
+    }
+}
+
+fn answer_line(answer: Result<String, Refusal>) -> String {
+    match answer {
+        Ok(text) => text + "\n",
+        Err(refused) => format!("{refused}\n"),
+    }
+}
+
+fn with_buffer(answer: Result<String, Refusal>, buffer: &[u8]) -> String {
+    format!("{}buffer{}\n", answer_line(answer), listed(buffer))
+}
+
+fn entry_line(found: Option<Entry>) -> String {
+    match found {
+        Some(e) => format!("entry {} {} {} {}\n", e.kind, e.second, e.offset, e.length),
+        None => "none\n".into(),
+    }
+}
+
+fn entry_call(mut arguments: Arguments) -> Option<String> {
+    let image = arguments.bytes()?;
+    let number = arguments.long_number()?;
+    arguments.end()?;
+    Some(entry_line(entry(image, number)))
+}
+
+fn walk_call(mut arguments: Arguments) -> Option<String> {
+    let image = arguments.bytes()?;
+    let steps = arguments.number()?;
+    arguments.end()?;
+    let mut walker = Walker::new(image);
+    Some((0..steps).map(|_| entry_line(walker.step())).collect())
+}
+
+fn row_call(mut arguments: Arguments) -> Option<String> {
+    let (free, falling) = (arguments.bytes()?, arguments.bytes()?);
+    let nodes = arguments.number()?;
+    let (node, class) = (arguments.number()?, arguments.number()?);
+    arguments.end()?;
+    let part = row(free, falling, nodes, node, class);
+    let answer = match part {
+        [] => Err(refusal(10, 0)),
+        part => Ok(format!("row{}", listed(part))),
+    };
+    Some(answer_line(answer))
+}
+
+fn hop_call(mut arguments: Arguments) -> Option<String> {
+    let (free, falling) = (arguments.bytes()?, arguments.bytes()?);
+    let nodes = arguments.number()?;
+    let (node, class) = (arguments.number()?, arguments.number()?);
+    let destination = arguments.number()?;
+    arguments.end()?;
+    let answer = hop(free, falling, nodes, node, class, destination);
+    Some(answer_line(answer.map(|byte| format!("hop {byte}"))))
+}
+
+fn route_call(mut arguments: Arguments) -> Option<String> {
+    let image = arguments.bytes()?;
+    let (source, destination) = (arguments.number()?, arguments.number()?);
+    let mut buffer = arguments.buffer()?;
+    arguments.end()?;
+    let answer = route(image, source, destination, &mut buffer);
+    let answer = answer.map(|count| format!("route {count}"));
+    Some(with_buffer(answer, &buffer))
+}
+
+fn read_call(mut arguments: Arguments) -> Option<String> {
+    let image = arguments.bytes()?;
+    let mut buffer = arguments.buffer()?;
+    arguments.end()?;
+    let answer = read(image, &mut buffer);
+    let answer = answer.map(|r| format!("read {} {} {}", r.nodes, r.links, u8::from(r.full)));
+    Some(with_buffer(answer, &buffer))
+}
+
+fn write_call(mut arguments: Arguments) -> Option<String> {
+    let nodes = arguments.number()?;
+    let full = arguments.number()? != 0;
+    let pairs = arguments.bytes()?;
+    let mut buffer = arguments.buffer()?;
+    arguments.end()?;
+    let answer = write(nodes, pairs, full, &mut buffer);
+    let answer = answer.map(|length| format!("wrote {length}"));
+    Some(with_buffer(answer, &buffer))
+}
+
+fn build_call(mut arguments: Arguments) -> Option<String> {
+    let image = arguments.bytes()?;
+    let mut buffer = arguments.buffer()?;
+    arguments.end()?;
+    let answer = build(image, &mut buffer);
+    let answer = answer.map(|length| format!("built {length}"));
+    Some(with_buffer(answer, &buffer))
+}
+
+fn steps_call(mut arguments: Arguments) -> Option<String> {
+    let image = arguments.bytes()?;
+    let list = arguments.bytes()?;
+    let count = arguments.number()?;
+    let named: Option<Vec<usize>> = (0..count).map(|_| arguments.number()).collect();
+    let named = named?;
+    arguments.end()?;
+    let mut record = Record::default();
+    let started = record.start(image, list).map(|()| "started".into());
+    let refused = started.is_err();
+    let mut text = answer_line(started);
+    if refused {
+        return Some(text);
+    }
+    for message in named {
+        text += &answer_line(record.step(message).map(step_text));
+    }
+    text += &format!("moves {}\n", record.moves());
+    Some(text)
+}
+
+fn step_text(answer: Answer) -> String {
+    match answer {
+        Answer::Already => "already".into(),
+        Answer::Moved => "moved".into(),
+        Answer::Blocked(by) => format!("blocked {by}"),
+        Answer::Delivered => "delivered".into(),
+    }
+}
+
+fn trace_call(mut arguments: Arguments) -> Option<String> {
+    let input = arguments.bytes()?;
+    arguments.end()?;
+    let answer = drained(input).map(|run| {
+        let steps = run.steps.iter();
+        let lines: String = steps.map(|(look, m)| format!("{look} {m}\n")).collect();
+        lines + &run.last_line()
+    });
+    Some(answer_line(answer))
+}

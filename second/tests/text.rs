@@ -1,0 +1,99 @@
+//! The text of the program `calls`, and that cases come out the same again.
+
+use second::cases::cabling::ring;
+use second::cases::pack::*;
+use second::cases::{drawn, fixed, Set, DRAWN};
+use second::programs::run;
+use second::protocol::calls;
+
+fn text(input: &[u8]) -> String {
+    String::from_utf8(calls(input)).expect("text")
+}
+
+#[test]
+fn entries_and_rows() {
+    let image = ring(4).links_image();
+    assert_eq!(text(&entry_call(&image, 0)), "entry 1 0 8 10\n");
+    assert_eq!(text(&entry_call(&image, 1)), "none\n");
+    assert_eq!(text(&walk_call(&image, 0)), "");
+    let three = "entry 1 0 8 10\nnone\nnone\n";
+    assert_eq!(text(&walk_call(&image, 3)), three);
+    let (free, falling) = ([1, 2, 3, 4], [5, 6, 7, 255]);
+    assert_eq!(text(&row_call(&free, &falling, [2, 1, 1])), "row 7 255\n");
+    assert_eq!(
+        text(&row_call(&free, &falling, [2, 2, 1])),
+        "refused 10 0\n"
+    );
+    assert_eq!(text(&hop_call(&free, &falling, [2, 0, 0, 1])), "hop 2\n");
+    assert_eq!(
+        text(&hop_call(&free, &falling, [2, 0, 256, 1])),
+        "refused 10 0\n"
+    );
+}
+
+#[test]
+fn buffers() {
+    let image = ring(4).full_image();
+    assert_eq!(
+        text(&route_call(&image, 0, 2, 5)),
+        "route 3\nbuffer 0 1 2 34 41\n"
+    );
+    assert_eq!(
+        text(&route_call(&image, 0, 2, 2)),
+        "refused 9 0\nbuffer 13 20\n"
+    );
+    assert_eq!(
+        text(&read_call(&image, 8)),
+        "read 4 4 1\nbuffer 0 1 0 3 1 2 2 3\n"
+    );
+    assert_eq!(text(&read_call(&[], 0)), "refused 1 0\nbuffer\n");
+    assert_eq!(
+        text(&write_call(2, 0, &[0, 1], 13)),
+        "wrote 12\nbuffer 1 1 1 0 8 0 4 0 2 0 0 1 97\n"
+    );
+    let built = text(&build_call(&ring(4).links_image(), 72));
+    assert!(built.starts_with("built 72\nbuffer 1 4 1 0 26 0 10 0 "));
+}
+
+#[test]
+fn steps_and_traces() {
+    let image = ring(4).links_image();
+    let list = list(&[(0, 2), (0, 1), (3, 3)]);
+    let steps = steps_call(&image, &list, &[0, 1, 2, 2, 3]);
+    let lines = "started\nmoved\nblocked 0\ndelivered\nalready\nrefused 10 0\nmoves 2\n";
+    assert_eq!(text(&steps), lines);
+    assert_eq!(text(&steps_call(&image, &[1], &[0])), "refused 11 0\n");
+    assert_eq!(text(&steps_call(&image, &[], &[])), "started\nmoves 0\n");
+    let none = trace_call(&drain_input(&image, 9, &[]));
+    assert_eq!(text(&none), "drained 0 0\n");
+    assert_eq!(text(&trace_call(&[1])), "refused 1 0\n");
+}
+
+#[test]
+fn bad_calls() {
+    let good = entry_call(&ring(4).links_image(), 0);
+    for length in 0..good.len() {
+        assert_eq!(text(&good[..length]), "bad call\n");
+    }
+    let longer = [good.as_slice(), &[0]].concat();
+    assert_eq!(text(&longer), "bad call\n");
+    assert_eq!(text(&[10]), "bad call\n");
+    assert_eq!(text(&[255, 0, 0]), "bad call\n");
+}
+
+#[test]
+fn fixed_cases_run() {
+    for case in fixed(Set::Small) {
+        let output = run(case.program, &case.input).expect("a known program");
+        assert!(!output.is_empty());
+    }
+}
+
+#[test]
+fn drawn_cases_come_out_the_same_again() {
+    for index in 0..40 * DRAWN.len() {
+        let case = drawn(Set::Large, 3, index);
+        assert_eq!(case, drawn(Set::Large, 3, index));
+        assert!(run(case.program, &case.input).is_some());
+    }
+}

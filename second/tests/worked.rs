@@ -1,0 +1,201 @@
+//! The networks worked by hand, with the values the scope paper prints.
+
+use second::calls::{accept, build, read, write, Fabric, Read};
+use second::cases::cabling::*;
+use second::cases::pack::{drain_input, full_length, list, trace_call};
+use second::cases::worked::ring_messages;
+use second::drain::{Answer, Record};
+use second::image::{entry, Walker};
+use second::label::prohibited;
+use second::programs::{drain, drained, run, show};
+use second::rows::{hop, row};
+
+fn fabric(cabling: &Cabling) -> Fabric {
+    accept(&cabling.links_image()).expect("accepted").0
+}
+
+fn labels(cabling: &Cabling) -> Vec<usize> {
+    fabric(cabling).labels
+}
+
+fn w(cabling: &Cabling) -> usize {
+    let fabric = fabric(cabling);
+    prohibited(&fabric.network, &fabric.labels)
+}
+
+fn t(cabling: &Cabling) -> usize {
+    fabric(cabling).network.turns()
+}
+
+#[test]
+fn one_link() {
+    let cabling = Cabling::raw(2, &[(0, 1)]);
+    assert_eq!(labels(&cabling), [1, 2]);
+    let links = [1, 1, 1, 0, 8, 0, 4, 0, 2, 0, 0, 1];
+    assert_eq!(cabling.links_image(), links);
+    let mut out = [0; 12];
+    assert_eq!(write(2, &[0, 1], false, &mut out), Ok(12));
+    assert_eq!(out, links);
+    let full = cabling.full_image();
+    assert_eq!(full.len(), 40);
+    let bodies = [2, 0, 0, 1, 1, 2, 0, 1, 0, 1, 0, 255, 0, 1];
+    assert_eq!(full[26..], bodies);
+    let contents = [
+        1, 4, 1, 0, 26, 0, 4, 0, 2, 0, 30, 0, 2, 0, 3, 0, 32, 0, 4, 0, 4, 0, 36, 0, 4, 0,
+    ];
+    assert_eq!(full[..26], contents);
+}
+
+#[test]
+fn triangle_and_path() {
+    assert_eq!(labels(&complete(3)), [1, 2, 3]);
+    assert_eq!((t(&complete(3)), w(&complete(3))), (3, 1));
+    assert_eq!(labels(&path(3)), [1, 2, 3]);
+    assert_eq!(w(&path(3)), 0);
+}
+
+#[test]
+fn four_in_a_ring() {
+    let fabric = fabric(&ring(4));
+    assert_eq!(ring(4).pairs, [(0, 1), (0, 3), (1, 2), (2, 3)]);
+    assert_eq!(fabric.labels, [1, 2, 3, 4]);
+    let none = 255;
+    let falling = [
+        [0, none, none, none],
+        [0, 1, none, none],
+        [1, 1, 2, none],
+        [0, 2, 2, 3],
+    ];
+    assert_eq!(fabric.tables.falling, falling.concat());
+    let text = "fabric 4 4 4 1\n0 1 0 1 1 3\n1 2 0 1 2 2\n2 3 1 1 2 3\n3 4 0 2 2 3\n";
+    assert_eq!(show(&ring(4).links_image()), text.as_bytes());
+    assert_eq!(show(&ring(4).full_image()), text.as_bytes());
+}
+
+#[test]
+fn hub_and_four_all_linked() {
+    assert_eq!(labels(&star(3)), [3, 1, 2, 4]);
+    assert_eq!((t(&complete(4)), w(&complete(4))), (12, 4));
+}
+
+#[test]
+fn the_network_of_26_nodes() {
+    let cabling = hall();
+    assert_eq!(cabling.pairs.len(), 8 + 4 + 4 * 10);
+    assert_eq!(labels(&cabling)[7], 1);
+    let degrees = cabling.degrees();
+    assert_eq!((degrees[0], degrees[1], degrees[7]), (4, 4, 4));
+}
+
+#[test]
+fn messages_on_the_ring() {
+    for seed in 0..200 {
+        let input = drain_input(&ring(4).links_image(), seed, &ring_messages());
+        assert_eq!(drain(&input), b"drained 4 12\n");
+    }
+    let input = drain_input(&ring(4).full_image(), 0, &ring_messages());
+    let run = drained(&input).expect("accepted");
+    assert_eq!(run.steps[0], (2, 2));
+    assert_eq!(run.steps.len(), 12);
+    let traced = second::protocol::calls(&trace_call(&input));
+    assert!(traced.starts_with(b"2 2\n") && traced.ends_with(b"\ndrained 4 12\n"));
+}
+
+#[test]
+fn moves_one_by_one() {
+    let image = ring(4).links_image();
+    let mut record = Record::default();
+    let messages = list(&[(0, 2), (0, 1), (1, 0), (3, 3)]);
+    record.start(&image, &messages).expect("accepted");
+    assert_eq!(record.step(0), Ok(Answer::Moved));
+    assert_eq!(record.step(1), Ok(Answer::Blocked(0)));
+    assert_eq!(record.step(2), Ok(Answer::Moved));
+    assert_eq!(record.step(3), Ok(Answer::Delivered));
+    assert_eq!(record.step(3), Ok(Answer::Already));
+    assert_eq!(record.step(0), Ok(Answer::Moved));
+    assert_eq!(record.step(1), Ok(Answer::Blocked(0)));
+    assert_eq!(record.moves(), 4);
+    assert_eq!(record.step(0), Ok(Answer::Delivered));
+    assert_eq!(record.step(1), Ok(Answer::Moved));
+    assert_eq!(record.moves(), 6);
+    record.start(&image, &[]).expect("accepted");
+    assert_eq!((record.messages(), record.moves()), (0, 0));
+}
+
+#[test]
+fn listed_refusals() {
+    let both = |image: &[u8], text: &str| {
+        for program in ["build", "show"] {
+            assert_eq!(run(program, image).expect("known"), text.as_bytes());
+        }
+    };
+    both(&[], "refused 1 0\n");
+    both(&Cabling::raw(1, &[]).links_image(), "refused 2 0\n");
+    both(&path(65).links_image(), "refused 2 0\n");
+    let many = second::cases::limits::too_many_pairs();
+    assert_eq!(many.pairs.len(), 513);
+    both(&many.links_image(), "refused 3 0\n");
+    both(&Cabling::raw(2, &[(1, 0)]).links_image(), "refused 4 0\n");
+    let twice = Cabling::raw(3, &[(0, 1), (0, 1), (1, 2)]);
+    both(&twice.links_image(), "refused 5 1\n");
+    both(&star(17).links_image(), "refused 6 0\n");
+    both(
+        &Cabling::raw(4, &[(0, 1), (2, 3)]).links_image(),
+        "refused 7 2\n",
+    );
+    assert!(accept(&path(64).links_image()).is_ok());
+    assert!(accept(&star(16).links_image()).is_ok());
+    assert!(accept(&largest().links_image()).is_ok());
+    let none = drain_input(&ring(4).links_image(), 0, &[]);
+    assert_eq!(drain(&none), b"drained 0 0\n");
+}
+
+#[test]
+fn full_images_have_their_length_and_read_back() {
+    for cabling in [path(2), ring(4), hall(), largest()] {
+        let mut out = vec![77; 10_000];
+        let length = build(&cabling.links_image(), &mut out).expect("built");
+        assert_eq!(length, full_length(&cabling));
+        assert!(out[length..].iter().all(|&byte| byte == 77));
+        let mut pairs = vec![0; 2 * cabling.pairs.len()];
+        let answer = read(&out[..length], &mut pairs);
+        let expected = Read {
+            nodes: cabling.nodes,
+            links: cabling.pairs.len(),
+            full: true,
+        };
+        assert_eq!(answer, Ok(expected));
+        assert_eq!(pairs, cabling.pair_bytes());
+    }
+}
+
+#[test]
+fn walking_the_contents() {
+    let image = ring(4).full_image();
+    let mut walker = Walker::new(&image);
+    let kinds: Vec<u8> = (0..4).map(|_| walker.step().expect("there").kind).collect();
+    assert_eq!(kinds, [1, 2, 3, 4]);
+    assert_eq!(walker.step(), None);
+    assert_eq!(walker.step(), None);
+    assert_eq!(entry(&image, u64::MAX), None);
+    assert_eq!(entry(&image[..25], 3), None);
+    assert!(entry(&image[..26], 3).is_some());
+    assert_eq!(entry(&[9, 255], 0), None);
+    assert_eq!(entry(&[9], 0), None);
+}
+
+#[test]
+fn rows_are_parts_of_the_lent_tables() {
+    let free: Vec<u8> = (0..9).collect();
+    let falling: Vec<u8> = (100..109).collect();
+    assert_eq!(row(&free, &falling, 3, 1, 0), [3, 4, 5]);
+    let part = row(&free, &falling, 3, 2, 1);
+    assert!(std::ptr::eq(part, &falling[6..9]));
+    assert_eq!(hop(&free, &falling, 3, 2, 1, 1), Ok(107));
+    assert!(row(&free, &falling, 3, 3, 0).is_empty());
+    assert!(row(&free, &falling, 3, 0, 2).is_empty());
+    assert!(row(&free, &falling, 2, 0, 0).is_empty());
+    assert!(row(&free, &falling[1..], 3, 0, 0).is_empty());
+    assert!(row(&[0], &[0], 1, 0, 0).is_empty());
+    assert!(hop(&free, &falling, 3, 2, 1, 3).is_err());
+}
