@@ -1,0 +1,23 @@
+-- `order::look` meets its contract.
+use Rattle.finite.proofs.Truth.{eq-same, ne-same}
+use Rattle.order.specs.Seed.{lookAt}
+use borrow.Author.Needs.{needs}
+use Rattle.order.proofs.look.Statement.{statement}
+use Rattle.order.proofs.look.Tie as tie
+
+returns : tie.Need-returns
+unfolding lookAt
+returns c = rw (eq-same (c .if1 .taken), lookAt)
+
+cast-result : tie.Need-cast-result
+cast-result c = search needs
+
+rem-result : tie.Need-rem-result
+rem-result c = search needs
+
+returns-2 : tie.Need-returns-2
+unfolding lookAt
+returns-2 c = rw (ne-same (c .if1 .left), lookAt)
+
+pub look-spec : {M : Type 1} → statement M
+look-spec = tie.close (tie.spec returns cast-result rem-result returns-2)
