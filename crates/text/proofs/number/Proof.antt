@@ -2,7 +2,8 @@
 use mathlib.Core.Path.{_∙_, ap}
 use Prim.Native.Nat.{ℕ}
 use Rattle.io.specs.Digits.{digits}
-use Rattle.text.specs.Text.{appended, decimalOf}
+use Rattle.grown.specs.Grown.{appended}
+use Rattle.text.specs.Text.{decimalOf}
 use Rattle.text.proofs.Decimal.{fewest-places}
 use borrow.Author.Needs.{needs}
 use Rattle.text.proofs.number.Statement.{statement}
@@ -26,7 +27,7 @@ returns c =
     let d = c .before .before in
     let n : ℕ = d .before .before .args .n in
     c .append .ensures
-    ∙ ap (appended (d .before .before .args .t)) (d .decimal .ensures .1 .1
+    ∙ ap (appended (d .before .before .args .g)) (d .decimal .ensures .1 .1
     ∙ ap (λ (k : ℕ). digits 10 k n) (fewest-places n (d .decimal .result) (d .before .before .fits .n .fits) (d .decimal .ensures .1 .0)))
 
 pub number-spec : {M : Type 1} → statement M

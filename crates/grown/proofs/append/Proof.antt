@@ -1,13 +1,13 @@
--- `text::append` meets its contract. The invariant: the first i bytes of s stand behind the text.
+-- `grown::append` meets its contract. The invariant: the first i bytes of s stand behind what was written.
 use mathlib.Core.Path.{_≡_, refl, _∙_, ap}
 use mathlib.Core.List.{List}
 use Prim.Native.Nat.{ℕ, _+_, _-_, _≤_, _<_}
 use native.Mathlib.Omega.{arith}
 use lib.ListN.{length, getD, set, take}
 use lib.Seq.{sets, take-all}
-use Rattle.text.proofs.Behind.{sets-more, no-room, room}
-use Rattle.text.proofs.append.Statement.{statement}
-use Rattle.text.proofs.append.Tie as tie
+use Rattle.grown.proofs.Behind.{sets-more, no-room, room}
+use Rattle.grown.proofs.append.Statement.{statement}
+use Rattle.grown.proofs.append.Tie as tie
 
 abbrev Inv-loop : tie.InvT-loop
 Inv-loop s at bytes₀ i₀ i-end bytes i =
@@ -45,7 +45,7 @@ loop-again c =
     let l = c .before .before in
     let a = l .before .before .before .before .args in
     let k : l .loop .i < length (a .s .now) = omega arith in (
-      ap (λ (b : List ℕ). set b (a .t .len + l .loop .i) (getD (a .s .now) (l .loop .i) 0)) (l .loop .inv .0) ∙ sets-more (a .t .bytes) (a .t .len) (a .s .now) (l .loop .i) k,
+      ap (λ (b : List ℕ). set b (a .g .len + l .loop .i) (getD (a .s .now) (l .loop .i) 0)) (l .loop .inv .0) ∙ sets-more (a .g .bytes) (a .g .len) (a .s .now) (l .loop .i) k,
       l .loop .inv .1,
       omega arith,
     )
@@ -57,9 +57,9 @@ returns-3 : tie.Need-returns-3 Inv-loop μ-loop
 returns-3 c =
     let l = c .before in
     let a = l .before .before .before .before .args in
-    ap (λ (b : List ℕ). record { bytes = b; len = a .t .len + length (a .s .now) })
-    (l .loop .inv .0 ∙ ap (sets (a .t .bytes) (a .t .len)) (take-all (l .loop .i) (a .s .now) (omega arith)))
-    ∙ room (a .t) (a .s .now) (omega arith)
+    ap (λ (b : List ℕ). record { bytes = b; len = a .g .len + length (a .s .now) })
+    (l .loop .inv .0 ∙ ap (sets (a .g .bytes) (a .g .len)) (take-all (l .loop .i) (a .s .now) (omega arith)))
+    ∙ room (a .g) (a .s .now) (omega arith)
 
 pub append-spec : {M : Type 1} → statement M
 append-spec =
