@@ -1,12 +1,16 @@
--- Laws of tabulated lists: length, elements, agreement, and extensionality.
-use mathlib.Core.Path.{_≡_, refl, sym, _∙_, ap, ap₂}
-use mathlib.Core.List.{List, [], _∷_}
+-- Laws of lists: tabulated ones by length, elements, agreement and extensionality; lists of zeros; one list stored over another.
+use mathlib.Core.Path.{_≡_, refl, sym, _∙_, ap, ap₂, subst}
+use mathlib.Core.Bool.{Bool, true, false}
+use mathlib.Core.List.{List, [], _∷_, _++_}
 use Prim.Native.Nat.{ℕ, zero, suc, _+_, _≤_, _<_}
 use native.Mathlib.Nat.{not-suc-le-zero, le-of-suc-le-suc, add-zero, zero-add, add-suc, suc-add}
+use native.Mathlib.Numerals.{add-one}
 use native.Mathlib.Omega.{arith}
-use lib.ListN.{length, getD, replicate, List·getD-eq-default}
-use lib.Seq.{ext-getD}
-use Rattle.finite.specs.Lists.{upFrom, tabulate}
+use lib.ListN.{length, getD, set, take, drop, replicate, List·getD-eq-default}
+use lib.Seq.{ext-getD, sets, sets-eq, take-suc, length-take-le}
+use borrow.Author.Tests.{eq-eqb, eqb-true}
+use Rattle.finite.specs.Lists.{upFrom, tabulate, alike}
+use Rattle.finite.proofs.Truth.{no-tf, refute, both, and-l, and-r}
 
 -- a list of zeros reads 0 everywhere
 pub getD-zeros : (n i : ℕ) → _≡_ {A = ℕ} (getD (replicate n 0) i 0) 0
@@ -44,3 +48,42 @@ tabulate-ext n f d l e h =
 
 pub tabulate-cong : (n : ℕ) (f g : ℕ → ℕ) → ((i : ℕ) → i < n → f i ≡ g i) → tabulate n f ≡ tabulate n g
 tabulate-cong n f g h = tabulate-ext n g 0 (tabulate n f) (tabulate-length n f) (λ i l. tabulate-at n f i 0 l ∙ h i l)
+
+-- ---- a list stored over another, element by element
+
+-- one more byte stored is one more byte behind
+sets-snoc : (l : List ℕ) (k : ℕ) (xs : List ℕ) (x : ℕ) → sets l k (xs ++ (x ∷ [])) ≡ set (sets l k xs) (k + length xs) x
+sets-snoc l k [] x = ap (λ (i : ℕ). set l i x) (sym (add-zero k))
+sets-snoc l k (y ∷ ys) x =
+    sets-snoc (set l k y) (suc k) ys x ∙ ap (λ (i : ℕ). set (sets (set l k y) (suc k) ys) i x) (suc-add k (length ys) ∙ sym (add-suc k (length ys)))
+
+pub sets-more : (l : List ℕ) (k : ℕ) (s : List ℕ) (i : ℕ) → i < length s → set (sets l k (take i s)) (k + i) (getD s i 0) ≡ sets l k (take (i + 1) s)
+sets-more l k s i h =
+    sym (ap (sets l k) (ap (λ (j : ℕ). take j s) (add-one i) ∙ take-suc s i 0 h) ∙ sets-snoc l k (take i s) (getD s i 0)
+    ∙ ap (λ (j : ℕ). set (sets l k (take i s)) (k + j) (getD s i 0)) (length-take-le i s (omega arith)))
+
+-- stored from the front, it stands before what is left
+pub sets-front : (l s : List ℕ) → length s ≤ length l → sets l 0 s ≡ s ++ drop (length s) l
+sets-front l s h =
+    let e = zero-add (length s) in
+    sets-eq s l 0 (omega arith) ∙ ap (λ (n : ℕ). s ++ drop n l) e
+
+-- ---- the test of sameness means equality
+
+pub alike-eq : (xs ys : List ℕ) → alike xs ys ≡ true → xs ≡ ys
+unfolding alike
+alike-eq [] [] h = refl
+alike-eq [] (y ∷ ys) h = no-tf h refl
+alike-eq (x ∷ xs) [] h = no-tf h refl
+alike-eq (x ∷ xs) (y ∷ ys) h = ap₂ _∷_ (eqb-true x y (and-l _ _ h)) (alike-eq xs ys (and-r _ _ h))
+
+alike-refl : (xs : List ℕ) → alike xs xs ≡ true
+unfolding alike
+alike-refl [] = refl
+alike-refl (x ∷ xs) = both (eq-eqb x x refl) (alike-refl xs)
+
+pub eq-alike : {xs ys : List ℕ} → xs ≡ ys → alike xs ys ≡ true
+eq-alike {xs} e = subst (λ (l : List ℕ). alike xs l ≡ true) e (alike-refl xs)
+
+pub ne-alike : (xs ys : List ℕ) → (xs ≡ ys → ⊥) → alike xs ys ≡ false
+ne-alike xs ys h = refute _ (λ t. h (alike-eq xs ys t))

@@ -170,12 +170,12 @@ module _ (n : ℕ) (f : ℕ → ℕ) (p : ℕ → Bool) where
         low = l;
         fact = and-r _ _ h;
         first = λ u i q.
-          let g = bound u i q in
-          bcase (below X (f u)) (λ t. let z = below-lt _ _ t in inl (omega arith))
-          (λ t.
-          let z = below-le _ _ t in
-          let r : X ≡ f u = omega arith in
-          inr (e ∙ r, least-found n (at-value X) u (both (eq-same (sym r)) q)))
+            let g = bound u i q in
+            bcase (below X (f u)) (λ t. let z = below-lt _ _ t in inl (omega arith))
+            (λ t.
+            let z = below-le _ _ t in
+            let r : X ≡ f u = omega arith in
+            inr (e ∙ r, least-found n (at-value X) u (both (eq-same (sym r)) q)));
       }
 
   pub leastBy-none : (b : ℕ) → ((v : ℕ) → v < n → p v ≡ false) → leastBy b n f p ≡ n

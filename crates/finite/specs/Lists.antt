@@ -1,6 +1,9 @@
--- A list given by its elements.
+-- A list given by its elements; and the test whether two lists are the same.
+use mathlib.Core.Bool.{Bool, true, false}
 use mathlib.Core.List.{List, [], _∷_}
 use Prim.Native.Nat.{ℕ, zero, suc}
+use lib.Dec.{eqb}
+use Rattle.finite.specs.Truth.{_&_}
 
 -- f k, f (k + 1), .., n of them
 unfoldable pub upFrom : ℕ → ℕ → (ℕ → ℕ) → List ℕ
@@ -10,3 +13,10 @@ upFrom k (suc n) f = f k ∷ upFrom (suc k) n f
 -- f 0, f 1, .., f (n - 1)
 unfoldable pub tabulate : ℕ → (ℕ → ℕ) → List ℕ
 tabulate n f = upFrom 0 n f
+
+-- two lists of numbers are the same
+unfoldable pub alike : List ℕ → List ℕ → Bool
+alike [] [] = true
+alike [] (y ∷ ys) = false
+alike (x ∷ xs) [] = false
+alike (x ∷ xs) (y ∷ ys) = eqb x y & alike xs ys

@@ -3,26 +3,13 @@ use mathlib.Core.Path.{_≡_, refl, sym, _∙_, ap}
 use mathlib.Core.Bool.{Bool, true, false}
 use mathlib.Core.List.{List, [], _∷_, _++_}
 use Prim.Native.Nat.{ℕ, zero, suc, _+_, _≤_, _<_, zero-le}
-use native.Mathlib.Nat.{add-zero, add-suc, suc-add}
-use native.Mathlib.Numerals.{add-one}
 use native.Mathlib.Omega.{arith}
 use lib.Dec.{leb}
 use lib.ListN.{length, getD, set, take, drop, length-append, length-replicate}
-use lib.Seq.{sets, sets-eq, length-sets, take-suc, length-take-le, take-at}
+use lib.Seq.{sets, sets-eq, length-sets, length-take-le, take-at}
 use borrow.Author.Tests.{le-leb, lt-leb}
 use Rattle.grown.specs.declared.Grown.{Grown}
 use Rattle.grown.specs.Grown.{roomSize, content, emptyOf, appended}
-
--- one more byte stored is one more byte behind
-sets-snoc : (l : List ℕ) (k : ℕ) (xs : List ℕ) (x : ℕ) → sets l k (xs ++ (x ∷ [])) ≡ set (sets l k xs) (k + length xs) x
-sets-snoc l k [] x = ap (λ (i : ℕ). set l i x) (sym (add-zero k))
-sets-snoc l k (y ∷ ys) x =
-    sets-snoc (set l k y) (suc k) ys x ∙ ap (λ (i : ℕ). set (sets (set l k y) (suc k) ys) i x) (suc-add k (length ys) ∙ sym (add-suc k (length ys)))
-
-pub sets-more : (l : List ℕ) (k : ℕ) (s : List ℕ) (i : ℕ) → i < length s → set (sets l k (take i s)) (k + i) (getD s i 0) ≡ sets l k (take (i + 1) s)
-sets-more l k s i h =
-    sym (ap (sets l k) (ap (λ (j : ℕ). take j s) (add-one i) ∙ take-suc s i 0 h) ∙ sets-snoc l k (take i s) (getD s i 0)
-    ∙ ap (λ (j : ℕ). set (sets l k (take i s)) (k + j) (getD s i 0)) (length-take-le i s (omega arith)))
 
 -- no room, and room
 pub no-room : (g : Grown) (s : List ℕ) → roomSize < g .len + length s → g ≡ appended g s

@@ -1,5 +1,5 @@
 -- The one statement over the table of worked networks: every entry is right. One test, computed over the whole table, and one law that turns it into words.
-use mathlib.Core.Path.{_≡_, refl, ap₂, subst⁻¹}
+use mathlib.Core.Path.{_≡_, refl, subst⁻¹}
 use mathlib.Core.Bool.{Bool, true, false}
 use mathlib.Core.List.{List, [], _∷_, List·Memᴰ, List·Memᴰ·cases-cons, List·Memᴰ·not-nil}
 use mathlib.Core.Logic.{⊎-elim}
@@ -10,8 +10,9 @@ use Rattle.finite.specs.Truth.{_&_, _or_, non, same, below}
 use Rattle.finite.specs.Sum.{sumTo}
 use Rattle.finite.specs.Search.{any, all, least, leastValue, lowestAt, leastBy}
 use Rattle.finite.specs.Sets.{has, setOf, without}
-use Rattle.finite.specs.Lists.{upFrom, tabulate}
+use Rattle.finite.specs.Lists.{upFrom, tabulate, alike}
 use Rattle.finite.proofs.Truth.{no-tf, and-l, and-r}
+use Rattle.finite.proofs.Lists.{alike-eq}
 use Rattle.graph.specs.Network.{among, degree}
 use Rattle.graph.specs.Reach.{grow, spread, reach, covers, joined, connected, cut}
 use Rattle.network.specs.Table.{joins, linkedBy, linked, edgeOf}
@@ -20,14 +21,7 @@ use Rattle.rule.specs.Candidate.{room, candidate, choice}
 use Rattle.rule.specs.Labels.{remains, give, stage, labelled, labelsOf}
 use Rattle.turns.specs.Turns.{turnsThat}
 use Rattle.worked.specs.Networks.{Worked, worked}
-use Rattle.worked.specs.Right.{Right, alike, isRight, allRight}
-
-pub alike-eq : (xs ys : List ℕ) → alike xs ys ≡ true → xs ≡ ys
-unfolding alike
-alike-eq [] [] h = refl
-alike-eq [] (y ∷ ys) h = no-tf h refl
-alike-eq (x ∷ xs) [] h = no-tf h refl
-alike-eq (x ∷ xs) (y ∷ ys) h = ap₂ _∷_ (eqb-true x y (and-l _ _ h)) (alike-eq xs ys (and-r _ _ h))
+use Rattle.worked.specs.Right.{Right, isRight, allRight}
 
 right : (e : Worked) → isRight e ≡ true → Right e
 unfolding isRight

@@ -7,7 +7,7 @@ use lib.Dec.{eqb}
 use lib.ListN.{length}
 use Rattle.finite.specs.Truth.{_&_, below}
 use Rattle.finite.specs.Sets.{setOf}
-use Rattle.finite.specs.Lists.{tabulate}
+use Rattle.finite.specs.Lists.{tabulate, alike}
 use Rattle.network.specs.Table.{linked, edgeOf}
 use Rattle.rule.specs.Candidate.{choice}
 use Rattle.rule.specs.Labels.{labelIn, labelsOf}
@@ -21,13 +21,6 @@ pub record Right (e : Worked) : Type 0 where
   pub turns : allTurns (e .nodes) (edgeOf (e .words)) ≡ e .turns
   pub prohibited : prohibitedTurns (e .nodes) (edgeOf (e .words)) (labelIn (e .labels)) ≡ e .prohibited
   pub first : choice (e .nodes) (edgeOf (e .words)) (λ v. below v (e .nodes)) ≡ e .first
-
--- two lists of numbers are the same
-unfoldable pub alike : List ℕ → List ℕ → Bool
-alike [] [] = true
-alike [] (y ∷ ys) = false
-alike (x ∷ xs) [] = false
-alike (x ∷ xs) (y ∷ ys) = eqb x y & alike xs ys
 
 unfoldable pub isRight : Worked → Bool
 isRight e =

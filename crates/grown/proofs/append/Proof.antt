@@ -5,7 +5,8 @@ use Prim.Native.Nat.{ℕ, _+_, _-_, _≤_, _<_}
 use native.Mathlib.Omega.{arith}
 use lib.ListN.{length, getD, set, take}
 use lib.Seq.{sets, take-all}
-use Rattle.grown.proofs.Behind.{sets-more, no-room, room}
+use Rattle.finite.proofs.Lists.{sets-more}
+use Rattle.grown.proofs.Behind.{no-room, room}
 use Rattle.grown.proofs.append.Statement.{statement}
 use Rattle.grown.proofs.append.Tie as tie
 
