@@ -10,6 +10,7 @@ use lib.Seq.{sets, sets-eq, length-sets, length-take-le, take-at}
 use borrow.Author.Tests.{le-leb, lt-leb}
 use Rattle.grown.specs.declared.Grown.{Grown}
 use Rattle.grown.specs.Grown.{roomSize, content, emptyOf, appended}
+use Rattle.grown.specs.Holds.{Holds}
 
 -- no room, and room
 pub no-room : (g : Grown) (s : List ℕ) → roomSize < g .len + length s → g ≡ appended g s
@@ -27,30 +28,23 @@ behind l k s h =
     let e : length (take k l ++ s) ≡ k + length s = length-append (take k l) s ∙ ap (λ (n : ℕ). n + length s) (length-take-le k l (omega arith)) in
     ap (take (k + length s)) (sets-eq s l k h) ∙ take-at (take k l ++ s) (drop (k + length s) l) (k + length s) e
 
--- its length counts bytes that it has
-pub record Proper (g : Grown) : Type 0 where
-  pub size : length (g .bytes) ≡ roomSize
-  pub within : g .len ≤ roomSize
+-- nothing at first
+pub holds-none : Holds emptyOf [] 0
+unfolding emptyOf
+holds-none = record { size = length-replicate {A = ℕ} roomSize 0; len-is = refl; bound = zero-le; content-is = refl }
 
--- what is appended, where there is room, stands behind what was written
-pub record Appended (g : Grown) (s : List ℕ) : Type 0 where
-  pub proper : Proper (appended g s)
-  pub length-is : appended g s .len ≡ g .len + length s
-  pub content-is : content (appended g s) ≡ content g ++ s
-
-pub append-law : (g : Grown) (s : List ℕ) → Proper g → g .len + length s ≤ roomSize → Appended g s
-append-law g s p h =
-    let e = room g s h in
+-- what is appended, where there is room, stands behind what was held
+pub holds-more : {g r : Grown} {s : List ℕ} {k : ℕ} (x : List ℕ) (j : ℕ) → Holds g s k → r ≡ appended g x → length x ≤ j → k + j ≤ roomSize
+    → Holds r (s ++ x) (k + j)
+holds-more {g} {r} {s} {k} x j h e b l =
+    let m = h .len-is in
+    let n = h .bound in
+    let fits : g .len + length x ≤ roomSize = omega arith in
+    let q = e ∙ sym (room g x fits) in
+    let a = length-append s x in
     record {
-      proper = rw (← e) (record { size = length-sets (g .bytes) (g .len) s ∙ p .size; within = h });
-      length-is = rw (← e) refl;
-      content-is = rw (← e) (behind (g .bytes) (g .len) s (rw (p .size) h));
+      size = ap (λ (y : Grown). length (y .bytes)) q ∙ length-sets (g .bytes) (g .len) x ∙ h .size;
+      len-is = ap (λ (y : Grown). y .len) q ∙ ap (λ (y : ℕ). y + length x) m ∙ sym a;
+      bound = omega arith;
+      content-is = ap content q ∙ behind (g .bytes) (g .len) x (rw (h .size) fits) ∙ ap (λ (y : List ℕ). y ++ x) (h .content-is)
     }
-
-pub empty-proper : Proper emptyOf
-unfolding emptyOf
-empty-proper = record { size = length-replicate {A = ℕ} roomSize 0; within = zero-le }
-
-pub empty-content : content emptyOf ≡ []
-unfolding emptyOf
-empty-content = refl
