@@ -2,11 +2,11 @@
 use mathlib.Core.Path.{_≡_, refl, sym, _∙_, ap}
 use mathlib.Core.Bool.{Bool, true, false}
 use mathlib.Core.Logic.{_⊎_, inl, inr, ⊎-elim}
-use Prim.Native.Nat.{ℕ, zero, suc, _+_, _≤_, _<_, zero-le, suc-le-suc}
+use Prim.Native.Nat.{ℕ, zero, suc, _≤_, _<_, zero-le}
 use native.Mathlib.Nat.{le-refl, le-step, lt-suc-self, not-suc-le-zero}
 use native.Mathlib.Omega.{arith}
-use Rattle.finite.specs.Truth.{_&_, _or_, non, same, below}
-use Rattle.finite.specs.Sum.{sumTo, count}
+use Rattle.finite.specs.Truth.{_&_, _or_, same, below}
+use Rattle.finite.specs.Sum.{count}
 use Rattle.finite.specs.Search.{Some, any, all, least, leastValue, lowestAt, leastBy, LeastBy}
 use Rattle.finite.proofs.Truth.{no-tf, bcase, iff, refute, both, and-l, and-r, false-and, or-l, or-r, or-case, same-eq, same-ne, same-refl, eq-same, below-lt, below-le}
 use Rattle.finite.proofs.Sum.{count-none}
@@ -119,6 +119,13 @@ pub least-cong : (n : ℕ) (p q : ℕ → Bool) → ((v : ℕ) → v < n → p v
 least-cong n p q h =
     least-unique n p (least n q) (least-le n q) (λ l. h _ l ∙ least-fact n q l)
     (λ v l. let k = least-le n q in h v (omega arith) ∙ least-before n q v l)
+
+pub any-least : (n : ℕ) (p : ℕ → Bool) → any n p ≡ true → least n p < n
+any-least n p h =
+    let s = any-some n p h in
+    let b = s .low in
+    let f = least-found n p (s .at) (s .fact) in
+    omega arith
 
 -- ---- the number with the least measure
 

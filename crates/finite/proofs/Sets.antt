@@ -1,23 +1,23 @@
 -- Laws of sets written as numbers: membership, extensionality, what the operations on binary digits mean, size and least member.
 use mathlib.Core.Path.{_≡_, refl, sym, _∙_, ap, ap₂, subst}
 use mathlib.Core.Bool.{Bool, true, false}
-use mathlib.Core.Logic.{_⊎_, inl, inr}
+use mathlib.Core.Logic.{⊎-elim}
 use Prim.Native.Nat.{ℕ, zero, suc, _+_, _-_, _*_, _/_, _%_, _^_, min, max, _≤_, _<_, zero-le}
-use native.Mathlib.Nat.{le-step, lt-suc-self, not-suc-le-zero, mod-lt, mod-eq-of-lt, mod-one, div-eq-of-lt, one-mul, zero-mul, zero-add, add-comm, le-dest, pow-suc, div-one, div-div-eq-div-mul, lt-of-lt-of-le}
-use native.Mathlib.Numerals.{one-add, add-one}
+use native.Mathlib.Nat.{not-suc-le-zero, mod-lt, mod-eq-of-lt, mod-one, div-eq-of-lt, one-mul, zero-mul, add-comm, le-dest, pow-suc, div-one, lt-of-lt-of-le}
+use native.Mathlib.Numerals.{one-add}
 use native.Mathlib.Omega.{arith}
 use lib.Bits.{bitAnd, bitOr, and-shr, or-shr, and-step, or-step, and-lt, or-lt}
 use lib.Count.{ones, ones-cat, trailingZeros, under}
 use lib.Dec.{eqb}
-use lib.Pow.{pow-pos, pow-mono, mod-pow-add, field, mod-mod-pow, high, low, suc-ones, shr-shr}
-use borrow.Author.Tests.{eqb-true, eqb-false, eq-eqb, ne-eqb}
+use lib.Pow.{pow-pos, pow-mono, mod-pow-add, field, mod-mod-pow, high, low, shr-shr}
+use borrow.Author.Tests.{eq-eqb}
 use Rattle.finite.specs.Truth.{_&_, _or_, non, same, below}
-use Rattle.finite.specs.Sum.{sumTo, when, sumIf, count}
+use Rattle.finite.specs.Sum.{sumTo, when, count}
 use Rattle.finite.specs.Search.{least}
 use Rattle.finite.specs.Sets.{has, setOf, without}
-use Rattle.finite.proofs.Truth.{no-tf, bcase, iff, refute, both, and-l, and-r, or-l, or-r, or-case, non-true, true-non, ne-same, same-eq, same-ne, same-refl, and-true, and-false, below-lt, below-le}
-use Rattle.finite.proofs.Sum.{sum-cong, sum-more, sum-none, sum-only, sum-split, sum-without, when-true, when-false}
-use Rattle.finite.proofs.Search.{least-here, least-there, least-cong}
+use Rattle.finite.proofs.Truth.{no-tf, bcase, iff, both, and-l, and-r, non-true, true-non, ne-same, same-eq, same-ne, same-refl, and-true, and-false, below-lt, below-le}
+use Rattle.finite.proofs.Sum.{count-le, count-without, sum-cong, sum-more, sum-none, sum-only, sum-split, sum-without, when-true, when-false}
+use Rattle.finite.proofs.Search.{find, least-here, least-there, least-cong}
 
 abbrev bit : ℕ → ℕ → ℕ
 bit w v = w / 2 ^ v % 2
@@ -256,3 +256,22 @@ in-without R h n = both h (true-non (ne-same n))
 
 pub without-other : (R : ℕ → Bool) (v u : ℕ) → R v ≡ false → without R v u ≡ R u
 without-other R v u h = iff _ _ (without-in R v u) (λ t. in-without R t (λ e. no-tf t (sym (ap R e) ∙ h)))
+
+-- ---- strict inclusion counts
+
+-- where all that passes p passes q, and v passes q alone, q counts more
+pub count-more : (n : ℕ) (p q : ℕ → Bool) (v : ℕ) → ((u : ℕ) → u < n → p u ≡ true → q u ≡ true) → v < n → q v ≡ true → p v ≡ false
+    → count n p < count n q
+count-more n p q v within l t f =
+    let new = count-without n q v l t in
+    let old = count-le n p (without q v) (λ u k h. in-without q (within u k h) (λ e. no-tf h (sym (ap p e) ∙ f))) in
+    omega arith
+
+-- of two sets that differ, one inside the other, the second has more members
+pub set-more : (n s w : ℕ) → s < 2 ^ n → w < 2 ^ n → ((v : ℕ) → v < n → has s v ≡ true → has w v ≡ true) → (w ≡ s → ⊥)
+    → count n (has s) < count n (has w)
+set-more n s w a b within d =
+    ⊎-elim (λ x. count-more n (has s) (has w) (x .at) within (x .low) (and-l _ _ (x .fact)) (non-true _ (and-r _ _ (x .fact))))
+    (λ none. absurd (d (set-ext n w (has s) b (λ v k.
+    iff _ _ (λ t. bcase (has s v) (λ y. y) (λ y. no-tf (both t (true-non y)) (none v k))) (within v k)) ∙ setOf-has n s a)))
+    (find n (λ v. has w v & non (has s v)))

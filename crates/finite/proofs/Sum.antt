@@ -2,12 +2,12 @@
 use mathlib.Core.Path.{_≡_, refl, sym, _∙_, ap, ap₂}
 use mathlib.Core.Bool.{Bool, true, false}
 use Prim.Native.Nat.{ℕ, zero, suc, _+_, _*_, _≤_, _<_, zero-le}
-use native.Mathlib.Nat.{le-refl, le-step, lt-suc-self, not-suc-le-zero, add-le-add, mul-add, mul-zero, mul-one, zero-mul, add-mul}
+use native.Mathlib.Nat.{le-refl, le-step, lt-suc-self, not-suc-le-zero, add-le-add, mul-add, mul-zero, mul-one}
 use native.Mathlib.Omega.{arith}
-use Rattle.finite.specs.Truth.{_&_, _or_, non, same, below}
+use Rattle.finite.specs.Truth.{_&_, non, same, below}
 use Rattle.finite.specs.Sum.{sumTo, when, sumIf, count}
 use Rattle.finite.specs.Sets.{without}
-use Rattle.finite.proofs.Truth.{no-tf, bcase, iff, refute, same-eq, same-ne, same-refl, ne-same, both, and-r, and-true, and-false, below-lt, below-le, lt-below}
+use Rattle.finite.proofs.Truth.{no-tf, bcase, iff, same-eq, same-ne, ne-same, both, and-r, and-true, and-false, below-lt, below-le, lt-below}
 
 pub sum-none : (f : ℕ → ℕ) → sumTo 0 f ≡ 0
 unfolding sumTo

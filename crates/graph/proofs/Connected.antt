@@ -1,20 +1,20 @@
 -- What the tests decide: `joined`, `connected` and `cut` say what the walks of specs/Network.antt say.
-use mathlib.Core.Path.{_≡_, refl, sym, _∙_, ap, fun-ext}
+use mathlib.Core.Path.{_≡_, sym, _∙_, ap}
 use mathlib.Core.Bool.{Bool, true, false}
 use mathlib.Core.Logic.{_↔_}
-use Prim.Native.Nat.{ℕ, _≤_, _<_}
+use Prim.Native.Nat.{ℕ, _<_}
 use native.Mathlib.Omega.{arith}
 use lib.Dec.{eqb}
 use borrow.Author.Tests.{eq-eqb, eqb-true}
-use Rattle.finite.specs.Truth.{_&_, _or_, non, same}
-use Rattle.finite.specs.Search.{all, least}
+use Rattle.finite.specs.Truth.{_&_, non, same}
+use Rattle.finite.specs.Search.{least}
 use Rattle.finite.specs.Sets.{has, setOf, without}
-use Rattle.finite.proofs.Truth.{no-tf, bcase, iff, refute, both, and-l, and-r, or-l, or-r, or-case, non-true, true-non, false-non, non-false, same-eq, same-refl}
+use Rattle.finite.proofs.Truth.{no-tf, bcase, iff, refute, both, and-l, and-r, or-l, or-r, or-case, non-true, true-non, non-false, same-eq, same-refl}
 use Rattle.finite.proofs.Search.{every-all, all-every, least-found, least-fact, least-cong}
 use Rattle.finite.proofs.Sets.{has-0, has-setOf, setOf-lt, set-empty, without-in}
 use Rattle.graph.specs.Network.{Network, Members, Walk, among, Connected, CutNode}
-use Rattle.graph.specs.Reach.{reach, covers, joined, connected, cut}
-use Rattle.graph.proofs.Walk.{walk-append, walk-reverse, among-to, among-network}
+use Rattle.graph.specs.Reach.{covers, joined, connected, cut}
+use Rattle.graph.proofs.Walk.{walk-append, walk-reverse, among-network}
 use Rattle.graph.proofs.Reach.{reach-from, reach-walk, reach-cong}
 
 pub covers-member : (n : ℕ) (R : ℕ → Bool) (s v : ℕ) → covers n R s ≡ true → v < n → R v ≡ true → has s v ≡ true

@@ -1,5 +1,5 @@
 -- A flood visits one node of its front at a time: what stays true on the way, that it ends, and that it ends with the nodes reached.
-use mathlib.Core.Path.{_≡_, refl, sym, _∙_, ap}
+use mathlib.Core.Path.{_≡_, sym, _∙_, ap}
 use mathlib.Core.Bool.{Bool, true, false}
 use Prim.Native.Nat.{ℕ, _<_}
 use native.Mathlib.Omega.{arith}
@@ -9,9 +9,8 @@ use Rattle.finite.specs.Sets.{has, without}
 use Rattle.finite.proofs.Truth.{no-tf, bcase, iff, refute, both, and-l, and-r, or-l, or-r, or-case, non-true, true-non, same-eq, same-ne, below-lt, lt-below}
 use Rattle.finite.proofs.Sum.{count-le, count-without}
 use Rattle.finite.proofs.Sets.{without-in, without-ne, in-without}
-use Rattle.graph.specs.Network.{Network}
 use Rattle.graph.specs.Reach.{reach}
-use Rattle.graph.proofs.Reach.{Closed, reach-start, reach-closed, reach-least}
+use Rattle.graph.proofs.Reach.{reach-start, reach-closed, reach-least}
 
 -- seen holds the start p and nodes reached from it alone, the front is seen, and the links of what is seen and not in the front lead to what is seen
 pub record Flooding (n : ℕ) (edge : ℕ → ℕ → Bool) (p seen front : ℕ → Bool) : Type 0 where

@@ -1,20 +1,18 @@
 -- The set that grows along links until nothing is added holds exactly the nodes that walks lead to.
 use mathlib.Core.Path.{_≡_, refl, sym, _∙_, ap}
-use mathlib.Core.Bool.{Bool, true, false}
-use mathlib.Core.Logic.{_⊎_, inl, inr, ⊎-elim}
+use mathlib.Core.Bool.{Bool, true}
 use Prim.Native.Nat.{ℕ, zero, suc, _+_, _^_, _≤_, _<_}
 use native.Mathlib.Omega.{arith}
 use lib.Dec.{eqb}
 use borrow.Author.Tests.{eq-eqb, ne-eqb, eqb-true, eqb-false}
-use Rattle.finite.specs.Truth.{_&_, _or_, non, same}
+use Rattle.finite.specs.Truth.{_&_, _or_}
 use Rattle.finite.specs.Sum.{count}
-use Rattle.finite.specs.Search.{any}
-use Rattle.finite.specs.Sets.{has, setOf, without}
-use Rattle.finite.proofs.Truth.{no-tf, bcase, iff, refute, both, and-l, and-r, or-l, or-r, or-case, non-true, true-non}
-use Rattle.finite.proofs.Sum.{count-le, count-without, count-bound, count-full}
-use Rattle.finite.proofs.Search.{find, some-any, any-some, any-cong}
-use Rattle.finite.proofs.Sets.{has-setOf, setOf-lt, setOf-out, set-ext, setOf-has, has-lt, in-without, setOf-cong}
-use Rattle.graph.specs.Network.{Walk, here, step, From}
+use Rattle.finite.specs.Sets.{has, setOf}
+use Rattle.finite.proofs.Truth.{bcase, both, and-l, and-r, or-l, or-r, or-case}
+use Rattle.finite.proofs.Sum.{count-full}
+use Rattle.finite.proofs.Search.{some-any, any-some, any-cong}
+use Rattle.finite.proofs.Sets.{has-setOf, setOf-lt, has-lt, setOf-cong, set-more}
+use Rattle.graph.specs.Network.{Walk, here, From}
 use Rattle.graph.specs.Reach.{grow, spread, reach}
 use Rattle.graph.proofs.Walk.{walk-append, walk-one, walk-closed}
 
@@ -44,16 +42,7 @@ module _ (n : ℕ) (edge : ℕ → ℕ → Bool) where
 
   -- what grows has more members
   grow-more : (s : ℕ) → s < 2 ^ n → (grow n edge s ≡ s → ⊥) → count n (has s) < count n (has (grow n edge s))
-  grow-more s l d =
-      ⊎-elim
-      (λ w.
-      let new = count-without n (has (grow n edge s)) (w .at) (w .low) (and-l _ _ (w .fact)) in
-      let old = count-le n (has s) (without (has (grow n edge s)) (w .at)) (λ u k h.
-      in-without _ (grow-keeps s u l h) (λ e. no-tf h (sym (ap (has s) e) ∙ non-true _ (and-r _ _ (w .fact))))) in
-      omega arith)
-      (λ none. absurd (d (set-ext n (grow n edge s) (has s) (grow-lt s) (λ v k.
-      iff _ _ (λ t. bcase (has s v) (λ y. y) (λ y. no-tf (both t (true-non y)) (none v k))) (grow-keeps s v l)) ∙ setOf-has n s l)))
-      (find n (λ v. has (grow n edge s) v & non (has s v)))
+  grow-more s l d = set-more n s (grow n edge s) l (grow-lt s) (λ v k h. grow-keeps s v l h) d
 
   spread-stop : (k s : ℕ) → grow n edge s ≡ s → spread (suc k) n edge s ≡ s
   unfolding spread

@@ -1,6 +1,6 @@
 -- The remaining graph held as links of its own: striking out a node gives the next one, and the tests over its links are those of 01.
-use mathlib.Core.Path.{_≡_, refl, sym, _∙_, ap, fun-ext}
-use mathlib.Core.Bool.{Bool, true, false}
+use mathlib.Core.Path.{_≡_, refl, ap, fun-ext}
+use mathlib.Core.Bool.{Bool, true}
 use Prim.Native.Nat.{ℕ}
 use Rattle.finite.specs.Truth.{_&_, non, same}
 use Rattle.finite.specs.Sum.{count}
@@ -9,7 +9,7 @@ use Rattle.finite.proofs.Truth.{iff, both, and-l, and-r}
 use Rattle.finite.proofs.Sum.{count-cong}
 use Rattle.graph.specs.Network.{among, avoid, degree}
 use Rattle.graph.specs.Reach.{joined, connected, cut, splits}
-use Rattle.graph.proofs.Walk.{among-from, among-to, among-edge, edge-among}
+use Rattle.graph.proofs.Walk.{among-to, among-edge, edge-among}
 
 pub avoid-among : (R : ℕ → Bool) (edge : ℕ → ℕ → Bool) (v : ℕ) → avoid v (among R edge) ≡ among (without R v) edge
 unfolding avoid among without

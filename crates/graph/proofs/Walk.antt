@@ -1,11 +1,9 @@
 -- Laws of walks: put end to end, turned round, carried to other links, and kept inside a closed set; laws of the remaining graph.
-use mathlib.Core.Path.{_≡_, refl, sym, _∙_, ap, fun-ext}
-use mathlib.Core.Bool.{Bool, true, false}
-use mathlib.Core.Logic.{_⊎_, inl, inr}
-use Prim.Native.Nat.{ℕ, _<_}
-use Rattle.finite.specs.Truth.{_&_}
+use mathlib.Core.Path.{_≡_}
+use mathlib.Core.Bool.{Bool, true}
+use Prim.Native.Nat.{ℕ}
 use Rattle.finite.proofs.Truth.{both, and-l, and-r}
-use Rattle.graph.specs.Network.{Network, Members, Walk, here, step, among}
+use Rattle.graph.specs.Network.{Network, Walk, here, step, among}
 
 pub walk-one : {edge : ℕ → ℕ → Bool} {a b : ℕ} → edge a b ≡ true → Walk edge a b
 walk-one h = step h here

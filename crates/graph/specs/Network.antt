@@ -1,6 +1,6 @@
 -- A network is a number of nodes n and a test `edge` for links; a node set is a test. These are the words that a reader believes.
 use mathlib.Core.Path.{_≡_}
-use mathlib.Core.Bool.{Bool, true, false}
+use mathlib.Core.Bool.{Bool, true}
 use Prim.Native.Nat.{ℕ, _<_}
 use Rattle.finite.specs.Truth.{_&_, non, same}
 use Rattle.finite.specs.Sum.{count}

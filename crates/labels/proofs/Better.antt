@@ -2,11 +2,11 @@
 use mathlib.Core.Path.{_≡_, refl, sym, _∙_, ap, subst, subst⁻¹}
 use mathlib.Core.Bool.{Bool, true, false}
 use mathlib.Core.Logic.{_⊎_, inl, inr, ⊎-elim}
-use Prim.Native.Nat.{ℕ, suc, _+_, _≤_, _<_}
+use Prim.Native.Nat.{ℕ, _+_, _≤_, _<_}
 use native.Mathlib.Nat.{not-suc-le-zero}
 use native.Mathlib.Omega.{arith}
-use Rattle.finite.specs.Truth.{_&_, non, same, below}
-use Rattle.finite.specs.Search.{Some, leastBy, LeastBy}
+use Rattle.finite.specs.Truth.{_&_, same, below}
+use Rattle.finite.specs.Search.{leastBy}
 use Rattle.finite.proofs.Truth.{no-tf, bcase, refute, both, and-l, and-r, true-non, non-true, same-eq, same-ne, below-lt, below-le, lt-below, le-below}
 use Rattle.finite.proofs.Search.{leastBy-least, leastBy-none, least-by-unique}
 use Rattle.graph.specs.Reach.{splits}

@@ -1,14 +1,14 @@
 -- The stages as the code runs them: the word, the table and the labels stay in step with what remains.
 use mathlib.Core.Path.{_≡_, refl, sym, _∙_, ap, ap₂, fun-ext}
-use mathlib.Core.Bool.{Bool, true, false}
+use mathlib.Core.Bool.{Bool}
 use mathlib.Core.List.{List}
-use Prim.Native.Nat.{ℕ, suc, _+_, _≤_, _<_}
+use Prim.Native.Nat.{ℕ, suc, _+_, _≤_}
 use native.Mathlib.Numerals.{add-one}
 use native.Mathlib.Omega.{arith}
-use lib.ListN.{length, getD, set, replicate, length-set, length-replicate}
-use Rattle.finite.specs.Truth.{_&_, below}
+use lib.ListN.{length, replicate, length-set, length-replicate}
+use Rattle.finite.specs.Truth.{below}
 use Rattle.finite.specs.Sets.{has, setOf, without}
-use Rattle.finite.proofs.Truth.{bcase, refute, and-l, below-lt, below-le, lt-below, le-below}
+use Rattle.finite.proofs.Truth.{bcase, refute, and-l, below-lt, below-le}
 use Rattle.finite.proofs.Sets.{without-other}
 use Rattle.graph.specs.Network.{Members, among, avoid}
 use Rattle.nodes.specs.Limits.{maxNodes}
@@ -16,7 +16,7 @@ use Rattle.nodes.proofs.Words.{has-all}
 use Rattle.network.specs.Table.{edgeOf, tableFrom, remaining}
 use Rattle.network.proofs.Meaning.{edge-remaining, strike-remaining}
 use Rattle.rule.specs.Candidate.{choice}
-use Rattle.rule.specs.Labels.{remains, give, stage, labelled, labelsOf}
+use Rattle.rule.specs.Labels.{remains, give, stage, labelled}
 use Rattle.rule.proofs.Stages.{remains-start, remains-set}
 use Rattle.labels.specs.Links.{choiceBy}
 use Rattle.labels.proofs.Remaining.{choice-links}

@@ -1,12 +1,12 @@
 -- A sum over the members of a word, taken one by one from the lowest: what is summed and what is left make the whole.
-use mathlib.Core.Path.{_≡_, refl, sym, _∙_, ap}
-use mathlib.Core.Bool.{Bool, true, false}
+use mathlib.Core.Path.{_≡_, _∙_, ap}
+use mathlib.Core.Bool.{Bool, true}
 use Prim.Native.Nat.{ℕ, zero, suc, _+_, _*_, _^_, _≤_, _<_}
 use native.Mathlib.Omega.{arith}
 use Rattle.finite.specs.Sum.{sumTo, when, sumIf}
 use Rattle.finite.specs.Search.{least}
 use Rattle.finite.specs.Sets.{has, setOf, without}
-use Rattle.finite.proofs.Sum.{sum-cong, sum-le, sum-zero, sum-without, when-le, when-false}
+use Rattle.finite.proofs.Sum.{sum-cong, sum-zero, sum-without, when-le, when-false}
 use Rattle.finite.proofs.Sets.{has-0, has-lt, has-setOf}
 use Rattle.nodes.proofs.Words.{lowest-in}
 

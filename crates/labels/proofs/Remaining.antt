@@ -1,15 +1,14 @@
 -- On the links of a remaining graph the rule over links is 01's rule: the same room, the same candidates, the same choice.
-use mathlib.Core.Path.{_≡_, refl, sym, _∙_, ap, ap₂}
-use mathlib.Core.Bool.{Bool, true, false}
-use Prim.Native.Nat.{ℕ, suc, _*_, _-_, _<_}
+use mathlib.Core.Path.{_≡_, sym, _∙_, ap, ap₂}
+use mathlib.Core.Bool.{Bool, true}
+use Prim.Native.Nat.{ℕ, suc, _*_, _-_}
 use lib.Dec.{leb}
 use Rattle.finite.specs.Truth.{_&_, non}
-use Rattle.finite.specs.Sum.{when, sumIf, count}
+use Rattle.finite.specs.Sum.{when, count}
 use Rattle.finite.proofs.Truth.{no-tf, bcase, iff, refute, both, and-l, and-r}
 use Rattle.finite.proofs.Sum.{sum-cong, when-cong}
 use Rattle.finite.proofs.Search.{leastBy-cong}
-use Rattle.graph.specs.Network.{among, degree}
-use Rattle.graph.specs.Reach.{splits}
+use Rattle.graph.specs.Network.{among}
 use Rattle.graph.proofs.Walk.{among-to, among-edge, edge-among}
 use Rattle.graph.proofs.Remaining.{links-degree, splits-cut}
 use Rattle.rule.specs.Candidate.{room, candidate, choice}

@@ -10,7 +10,7 @@ use Rattle.finite.specs.Sum.{count}
 use Rattle.finite.proofs.Truth.{bcase, same-eq, same-ne, below-lt, lt-below, le-below}
 use Rattle.lawful.specs.Turn.{rises, falls, Climbing}
 use Rattle.lawful.specs.Path.{LawfulTo}
-use Rattle.lawful.proofs.General.{count-more}
+use Rattle.finite.proofs.Sets.{count-more}
 use Rattle.lawful.proofs.Run.{rise, fall, Run, done, hop, rises-edge, rises-lt, lt-falls, run-any}
 use Rattle.lawful.proofs.Paths.{run-way}
 

@@ -15,7 +15,7 @@ use Rattle.graph.specs.Network.{Network}
 use Rattle.lawful.specs.Turn.{Distinct, Climbing}
 use Rattle.lawful.specs.Path.{LawfulTo, Begins}
 use Rattle.lawful.specs.Entry.{Layer, leads, layer, lowestLead, firstLayer, none, entry}
-use Rattle.lawful.proofs.General.{any-least}
+use Rattle.finite.proofs.Search.{any-least}
 use Rattle.lawful.proofs.Run.{Hop, Run, done, hop, Fewest, hop-edge}
 use Rattle.lawful.proofs.Layers.{side, Lead, leads-hop, hop-leads, layer-run, run-layer, layer-more, layer-grow, layer-start, layer-rest, layer-still}
 use Rattle.lawful.proofs.Paths.{WayTo, way-first, way-run, run-way, way-none, hop-shortest}

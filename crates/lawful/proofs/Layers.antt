@@ -17,7 +17,7 @@ use Rattle.finite.proofs.Search.{some-any, any-some}
 use Rattle.finite.proofs.Sets.{has-setOf, setOf-lt, has-lt}
 use Rattle.lawful.specs.Turn.{rises}
 use Rattle.lawful.specs.Entry.{Layer, leads, joining, layer}
-use Rattle.lawful.proofs.General.{set-more}
+use Rattle.finite.proofs.Sets.{set-more}
 use Rattle.lawful.proofs.Run.{Hop, rise, fall, Run, done, hop, hop-edge}
 
 -- the set of a layer that belongs to the class

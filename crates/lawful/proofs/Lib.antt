@@ -1,4 +1,3 @@
-pub mod General
 pub mod Run
 pub mod Layers
 pub mod Paths

@@ -1,6 +1,6 @@
 -- Paths as lists of nodes: what a reader believes. A path from v is v and the list of the nodes after it; its hops are as many as those.
 use mathlib.Core.Path.{_≡_}
-use mathlib.Core.Bool.{Bool, true, false}
+use mathlib.Core.Bool.{Bool, true}
 use mathlib.Core.List.{List, [], _∷_}
 use Prim.Native.Nat.{ℕ, _≤_}
 use lib.ListN.{length}

@@ -2,16 +2,15 @@
 use mathlib.Core.Path.{_≡_, refl, sym, _∙_, ap, ap₂}
 use mathlib.Core.Bool.{Bool, true, false}
 use mathlib.Core.List.{List}
-use Prim.Native.Nat.{ℕ, suc, _+_, _*_, _/_, _^_, _≤_, _<_}
+use Prim.Native.Nat.{ℕ, _+_, _*_, _/_, _^_, _<_}
 use native.Mathlib.Numerals.{add-one}
-use native.Mathlib.Omega.{arith}
 use lib.Dec.{lit<}
 use lib.ListN.{length, getD, set, replicate, length-set, length-replicate}
 use lib.Seq.{getD-set-same, getD-set-other}
-use Rattle.finite.specs.Truth.{_&_, _or_, non, same}
+use Rattle.finite.specs.Truth.{_or_, same}
 use Rattle.finite.specs.Search.{any}
 use Rattle.finite.specs.Sets.{has, setOf}
-use Rattle.finite.proofs.Truth.{no-tf, bcase, iff, refute, both, and-l, and-r, or-l, or-r, or-case, or-false, non-true, true-non, same-refl, same-eq, same-ne, eq-same, ne-same}
+use Rattle.finite.proofs.Truth.{bcase, iff, refute, both, and-l, and-r, or-l, or-r, or-case, or-false, non-true, true-non, same-refl, same-eq, same-ne, eq-same, ne-same}
 use Rattle.finite.proofs.Search.{any-more}
 use Rattle.finite.proofs.Lists.{getD-zeros}
 use Rattle.finite.proofs.Sets.{has-0, has-setOf, setOf-lt}

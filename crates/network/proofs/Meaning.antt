@@ -1,15 +1,12 @@
 -- What the functions' answers mean in 01's words: the links of a list of pairs make a network, a table of what remains holds the remaining graph, and
 -- on it `strike`, `degree`, `joined` and `splits` speak of that graph; for a table made from pairs they say what walks say.
-use mathlib.Core.Path.{_≡_, refl, sym, _∙_, ap, fun-ext}
-use mathlib.Core.Bool.{Bool, true, false}
+use mathlib.Core.Path.{_≡_, sym, _∙_, ap, fun-ext}
+use mathlib.Core.Bool.{Bool, true}
 use mathlib.Core.List.{List}
 use mathlib.Core.Logic.{_↔_}
 use Prim.Native.Nat.{ℕ, _^_, _<_}
-use native.Mathlib.Omega.{arith}
-use lib.ListN.{length, getD}
-use Rattle.finite.specs.Truth.{_&_, non, same, below}
+use Rattle.finite.specs.Truth.{below}
 use Rattle.finite.specs.Sum.{count}
-use Rattle.finite.specs.Search.{any}
 use Rattle.finite.specs.Sets.{has, setOf, without}
 use Rattle.finite.proofs.Truth.{no-tf, bcase, refute, below-lt, below-le}
 use Rattle.finite.proofs.Search.{any-some, some-any}
@@ -22,7 +19,7 @@ use Rattle.graph.proofs.Reach.{reach-from, reach-walk}
 use Rattle.graph.proofs.Connected.{connected-iff, cut-iff}
 use Rattle.graph.proofs.Remaining.{avoid-among, joined-connected, splits-cut, links-degree}
 use Rattle.nodes.specs.Limits.{maxNodes}
-use Rattle.network.specs.Table.{joins, linkedBy, linked, edgeOf, tableFrom, tableOf, remaining}
+use Rattle.network.specs.Table.{linkedBy, linked, edgeOf, tableFrom, tableOf, remaining}
 use Rattle.network.proofs.Table.{edge-tableFrom}
 use Rattle.network.proofs.Links.{joins-ne, joins-ends, joins-swap}
 

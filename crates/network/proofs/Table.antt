@@ -10,10 +10,9 @@ use lib.ListN.{length, getD, set, length-set}
 use lib.Seq.{getD-set-same, getD-set-other}
 use Rattle.finite.specs.Truth.{_&_, non, same}
 use Rattle.finite.specs.Sets.{has, setOf, without}
-use Rattle.finite.specs.Lists.{tabulate}
 use Rattle.finite.proofs.Truth.{no-tf, bcase, iff, refute, both, and-l, and-r, and-true, same-eq, same-ne}
-use Rattle.finite.proofs.Sets.{has-lt, has-0, has-setOf, setOf-lt, setOf-cong, set-ext}
-use Rattle.finite.proofs.Lists.{tabulate-length, tabulate-at, tabulate-ext, tabulate-cong}
+use Rattle.finite.proofs.Sets.{has-lt, has-0, has-setOf, setOf-cong, set-ext}
+use Rattle.finite.proofs.Lists.{tabulate-at, tabulate-ext, tabulate-cong}
 use Rattle.graph.specs.Network.{among}
 use Rattle.nodes.specs.Limits.{maxNodes}
 use Rattle.nodes.proofs.Words.{all-has}
@@ -69,12 +68,12 @@ unfolding among edgeOf
 restrict-more {R} {t} {rest} {u} x s l e = record {
   size = length-set rest u x ∙ s .size;
   kept = λ k h.
-    bcase (same k u)
-    (λ q.
-    let i = same-eq k u q in
-    rw i (getD-set-same rest u x 0 (rw (s .size) l) ∙ e ∙ ap (λ (y : ℕ). setOf maxNodes (among R (λ a b. has y b) u)) (s .same-row u (omega arith))))
-    (λ q. let d = same-ne k u q in getD-set-other rest u k x 0 d ∙ s .kept k (omega arith));
-  same-row = λ k h. getD-set-other rest u k x 0 (λ i. omega arith) ∙ s .same-row k (omega arith)
+      bcase (same k u)
+      (λ q.
+      let i = same-eq k u q in
+      rw i (getD-set-same rest u x 0 (rw (s .size) l) ∙ e ∙ ap (λ (y : ℕ). setOf maxNodes (among R (λ a b. has y b) u)) (s .same-row u (omega arith))))
+      (λ q. let d = same-ne k u q in getD-set-other rest u k x 0 d ∙ s .kept k (omega arith));
+  same-row = λ k h. getD-set-other rest u k x 0 (λ i. omega arith) ∙ s .same-row k (omega arith);
 }
 
 pub restrict-all : {R : ℕ → Bool} {t rest : List ℕ} {u : ℕ} → Restricting R t rest u → maxNodes ≤ u → rest ≡ tableFrom (among R (edgeOf t))

@@ -1,6 +1,6 @@
 -- One turn of the flood over words is one visit of the flood over sets.
-use mathlib.Core.Path.{_≡_, refl, sym, _∙_, ap}
-use mathlib.Core.Bool.{Bool, true, false}
+use mathlib.Core.Path.{_≡_, _∙_, ap}
+use mathlib.Core.Bool.{Bool}
 use mathlib.Core.List.{List}
 use Prim.Native.Nat.{ℕ, _^_, _<_}
 use lib.ListN.{getD}

@@ -69,7 +69,11 @@ pub fn table_of(pairs: &[u8]) -> [u64; MAX_NODES]
 fn kept_row(row: u64, w: u64, u: usize) -> u64
     ensures { λ r. ⌜ r ≡ setOf maxNodes (among (has w) (λ a b. has row b) u) ⌝ }
 {
-    if nodes::has(w, u) { nodes::common(row, w) } else { 0 }
+    if nodes::has(w, u) {
+        nodes::common(row, w)
+    } else {
+        0
+    }
 }
 
 // A copy of the table in which only the links between nodes of w are kept.

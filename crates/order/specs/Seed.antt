@@ -1,5 +1,5 @@
 -- 01, "Programs": the order in which Drain looks at messages.
-use mathlib.Core.Bool.{Bool, true, false}
+use mathlib.Core.Bool.{true, false}
 use Prim.Native.Nat.{ℕ, _+_, _*_, _/_, _%_, _^_}
 use Rattle.finite.specs.Truth.{same}
 

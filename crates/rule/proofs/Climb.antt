@@ -1,24 +1,22 @@
 -- Each node but the one labelled last has a neighbour with a higher label; and of two remaining nodes the lower number comes first.
 use mathlib.Core.Path.{_≡_, refl, sym, _∙_, ap, subst}
-use mathlib.Core.Bool.{Bool, true, false}
-use mathlib.Core.Logic.{_⊎_, inl, inr, ⊎-elim}
+use mathlib.Core.Bool.{Bool, true}
+use mathlib.Core.Logic.{_⊎_, ⊎-elim}
 use Prim.Native.Nat.{ℕ, zero, suc, _+_, _*_, _-_, _≤_, _<_, zero-le}
 use native.Mathlib.Nat.{le-dest, le-of-eq, le-trans}
 use native.Mathlib.Omega.{arith}
 use borrow.Author.Tests.{le-leb}
 use Rattle.finite.specs.Truth.{_&_, same, below}
-use Rattle.finite.specs.Sum.{count}
 use Rattle.finite.specs.Search.{Some}
 use Rattle.finite.specs.Sets.{without}
-use Rattle.finite.proofs.Truth.{no-tf, bcase, both, refute, and-l, and-r, true-non, same-eq, eq-same, lt-below}
+use Rattle.finite.proofs.Truth.{both, refute, and-l, and-r, true-non, same-eq, eq-same, lt-below}
 use Rattle.finite.proofs.Sum.{count-le, count-member, sum-only}
 use Rattle.finite.proofs.Sets.{without-in, without-ne}
 use Rattle.graph.specs.Network.{Network, Members, Connected, Walk, here, step, among, degree}
-use Rattle.graph.specs.Reach.{cut}
 use Rattle.graph.proofs.Walk.{among-edge, among-to}
 use Rattle.graph.proofs.Connected.{cut-iff}
 use Rattle.lawful.specs.Turn.{rises, Climbing}
-use Rattle.rule.specs.Candidate.{room, candidate, choice, Chosen}
+use Rattle.rule.specs.Candidate.{room, candidate, choice}
 use Rattle.rule.specs.Labels.{labelIn, labelsOf, above}
 use Rattle.rule.proofs.Exists.{candidate-exists}
 use Rattle.rule.proofs.Choice.{choice-chosen, candidate-in}

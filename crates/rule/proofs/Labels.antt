@@ -1,20 +1,16 @@
 -- The labels of a connected network: 1, 2, .. m, each exactly once; what remains at each stage is the nodes with higher labels, connected, and the
 -- next label goes to the least candidate of them. No other labelling is like that.
 use mathlib.Core.Path.{_≡_, refl, sym, _∙_, ap, fun-ext, subst, subst⁻¹}
-use mathlib.Core.Bool.{Bool, true, false}
+use mathlib.Core.Bool.{Bool, true}
 use mathlib.Core.List.{List}
 use Prim.Native.Nat.{ℕ, zero, suc, _+_, _≤_, _<_}
 use native.Mathlib.Nat.{add-suc, add-zero, le-refl, le-of-eq, le-dest}
 use native.Mathlib.Omega.{arith}
-use lib.ListN.{length, getD, set}
 use lib.Seq.{getD-set-same, getD-set-other}
-use Rattle.finite.specs.Truth.{_&_, same, below}
-use Rattle.finite.specs.Sum.{count}
-use Rattle.finite.specs.Search.{Some}
-use Rattle.finite.specs.Sets.{without}
-use Rattle.finite.proofs.Truth.{no-tf, bcase, iff, refute, both, and-l, and-r, same-eq, same-ne, same-refl, eq-same, below-lt, below-le, lt-below, le-below}
+use Rattle.finite.specs.Truth.{same, below}
+use Rattle.finite.proofs.Truth.{bcase, iff, both, and-l, and-r, same-eq, same-ne, eq-same, below-lt, below-le, lt-below}
 use Rattle.finite.proofs.Sum.{count-member}
-use Rattle.finite.proofs.Sets.{without-in, without-ne, in-without}
+use Rattle.finite.proofs.Sets.{in-without}
 use Rattle.finite.proofs.Lists.{getD-zeros}
 use Rattle.graph.specs.Network.{Network, Connected}
 use Rattle.rule.specs.Candidate.{Chosen}

@@ -1,25 +1,21 @@
 -- The stages one by one, on a connected network: what remains loses the chosen node, stays connected, and has one node less.
-use mathlib.Core.Path.{_≡_, refl, sym, _∙_, ap, fun-ext}
-use mathlib.Core.Bool.{Bool, true, false}
+use mathlib.Core.Path.{_≡_, sym, _∙_, ap, fun-ext}
+use mathlib.Core.Bool.{Bool}
 use mathlib.Core.List.{List}
-use mathlib.Core.Logic.{_⊎_, inl, inr, ⊎-elim}
 use Prim.Native.Nat.{ℕ, zero, suc, _+_, _≤_, _<_}
-use native.Mathlib.Nat.{add-suc, add-zero}
 use native.Mathlib.Omega.{arith}
-use lib.ListN.{length, getD, set, replicate, length-set, length-replicate}
+use lib.ListN.{length, set, replicate, length-set, length-replicate}
 use lib.Seq.{getD-set-same, getD-set-other}
-use Rattle.finite.specs.Truth.{_&_, non, same, below}
+use Rattle.finite.specs.Truth.{_&_, same, below}
 use Rattle.finite.specs.Sum.{count}
-use Rattle.finite.specs.Search.{Some}
 use Rattle.finite.specs.Sets.{without}
-use Rattle.finite.proofs.Truth.{no-tf, bcase, iff, refute, both, and-l, and-r, true-and, non-true, true-non, same-eq, same-ne, same-refl, eq-same, ne-same, below-lt, below-le, lt-below}
-use Rattle.finite.proofs.Sum.{count-without, count-none, count-member, count-below}
+use Rattle.finite.proofs.Truth.{no-tf, bcase, iff, refute, both, and-l, and-r, true-and, non-true, true-non, same-eq, same-ne, eq-same, below-lt, lt-below}
+use Rattle.finite.proofs.Sum.{count-without, count-below}
 use Rattle.finite.proofs.Search.{count-some}
-use Rattle.finite.proofs.Sets.{without-in, without-ne, in-without}
 use Rattle.finite.proofs.Lists.{getD-zeros}
 use Rattle.graph.specs.Network.{Network, Members, Connected}
 use Rattle.graph.proofs.Connected.{uncut-connected}
-use Rattle.rule.specs.Candidate.{candidate, choice, Chosen}
+use Rattle.rule.specs.Candidate.{choice, Chosen}
 use Rattle.rule.specs.Labels.{labelIn, remains, give, stage, labelled}
 use Rattle.rule.proofs.Exists.{candidate-exists}
 use Rattle.rule.proofs.Choice.{choice-chosen, candidate-in, candidate-uncut}

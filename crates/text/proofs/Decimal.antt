@@ -1,11 +1,9 @@
 -- The number of decimal digits is determined: the fewest that hold n is `places n`.
 use mathlib.Core.Path.{_≡_, sym, ap, subst}
-use mathlib.Core.Bool.{Bool, true, false}
-use Prim.Native.Nat.{ℕ, zero, suc, _+_, _-_, _*_, _^_, _≤_, _<_}
+use Prim.Native.Nat.{ℕ, zero, suc, _-_, _^_, _≤_, _<_}
 use native.Mathlib.Nat.{le-trans, pow-le-pow-right}
 use native.Mathlib.Omega.{arith}
 use Rattle.finite.specs.Truth.{below}
-use Rattle.finite.specs.Search.{least}
 use Rattle.finite.proofs.Truth.{bcase, below-lt, below-le, lt-below, le-below}
 use Rattle.finite.proofs.Search.{least-unique}
 use Rattle.io.specs.Digits.{Fewest}

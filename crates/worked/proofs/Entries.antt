@@ -1,17 +1,15 @@
 -- The one statement over the table of worked networks: every entry is right. One test, computed over the whole table, and one law that turns it into words.
 use mathlib.Core.Path.{_≡_, refl, subst⁻¹}
-use mathlib.Core.Bool.{Bool, true, false}
+use mathlib.Core.Bool.{true}
 use mathlib.Core.List.{List, [], _∷_, List·Memᴰ, List·Memᴰ·cases-cons, List·Memᴰ·not-nil}
 use mathlib.Core.Logic.{⊎-elim}
-use Prim.Native.Nat.{ℕ}
-use lib.Dec.{eqb}
 use borrow.Author.Tests.{eqb-true}
 use Rattle.finite.specs.Truth.{_&_, _or_, non, same, below}
 use Rattle.finite.specs.Sum.{sumTo}
 use Rattle.finite.specs.Search.{any, all, least, leastValue, lowestAt, leastBy}
 use Rattle.finite.specs.Sets.{has, setOf, without}
 use Rattle.finite.specs.Lists.{upFrom, tabulate, alike}
-use Rattle.finite.proofs.Truth.{no-tf, and-l, and-r}
+use Rattle.finite.proofs.Truth.{and-l, and-r}
 use Rattle.finite.proofs.Lists.{alike-eq}
 use Rattle.graph.specs.Network.{among, degree}
 use Rattle.graph.specs.Reach.{grow, spread, reach, covers, joined, connected, cut}

@@ -6,7 +6,6 @@ use lib.ListN.{length}
 use borrow.Author.Tests.{le-leb, lt-leb}
 use Rattle.refusal.specs.declared.Refusal.{Refusal}
 use Rattle.refusal.specs.declared.Refusal.the-variants.{Short}
-use Rattle.refusal.specs.declared.Verdict.{Verdict}
 use Rattle.refusal.specs.declared.Verdict.the-variants.{Fine, Fault}
 use Rattle.written.specs.declared.Written.the-variants.{Bytes, NotWritten}
 use Rattle.written.specs.Written.{placed, writtenOf, writtenInto, Writes}

@@ -1,5 +1,5 @@
 -- `labels::labels` meets its contract: the loop is the stages, one after the other.
-use mathlib.Core.Path.{_≡_, sym, _∙_, ap, ap₂}
+use mathlib.Core.Path.{_≡_, _∙_, ap₂}
 use mathlib.Core.List.{List}
 use Prim.Native.Nat.{ℕ, _-_, _≤_, min}
 use native.Mathlib.Nat.{le-trans, le-of-eq, min-le-right}

@@ -1,12 +1,12 @@
 -- `labels::room` meets its contract: the sum over the links, taken one by one.
-use mathlib.Core.Path.{_≡_, sym, _∙_, ap, ap₂}
+use mathlib.Core.Path.{_≡_, _∙_, ap, ap₂}
 use mathlib.Core.List.{List}
 use Prim.Native.Nat.{ℕ, _+_, _*_, _-_, _≤_}
 use native.Mathlib.Nat.{zero-add, mul-le-mul}
 use native.Mathlib.Omega.{arith}
 use lib.Dec.{leb}
 use lib.ListN.{getD}
-use Rattle.finite.specs.Sum.{sumTo, count, sumIf}
+use Rattle.finite.specs.Sum.{count, sumIf}
 use Rattle.finite.specs.Sets.{has}
 use Rattle.finite.proofs.Sum.{count-bound}
 use Rattle.nodes.specs.Limits.{maxNodes}

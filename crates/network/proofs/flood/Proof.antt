@@ -1,9 +1,9 @@
 -- `network::flood` meets its contract. The invariant is the flood over sets, and each turn is one of its visits.
-use mathlib.Core.Path.{_≡_, _∙_}
+use mathlib.Core.Path.{_∙_}
 use Prim.Native.Nat.{_^_, _<_}
 use native.Mathlib.Omega.{arith}
 use Rattle.finite.specs.Sets.{has}
-use Rattle.finite.proofs.Sets.{has-0, setOf-lt, setOf-has, set-ext}
+use Rattle.finite.proofs.Sets.{has-0, setOf-has, set-ext}
 use Rattle.graph.proofs.Flood.{Flooding, Visit, unvisited, flood-none, flood-more, flood-less, flood-all}
 use Rattle.graph.proofs.Reach.{reach-lt}
 use Rattle.nodes.specs.Limits.{maxNodes}

@@ -3,8 +3,8 @@ use mathlib.Core.Path.{refl, _∙_, ap}
 use Prim.Native.Nat.{ℕ}
 use borrow.Author.Needs.{needs}
 use lib.Dec.{eqb}
-use Rattle.finite.specs.Truth.{_&_, non, same}
-use Rattle.finite.specs.Sets.{has, setOf}
+use Rattle.finite.specs.Truth.{same}
+use Rattle.finite.specs.Sets.{has}
 use Rattle.finite.proofs.Sets.{has-setOf}
 use Rattle.graph.specs.Reach.{joined, covers}
 use Rattle.graph.proofs.Reach.{reach-cong}

@@ -1,6 +1,5 @@
 -- `network::splits` meets its contract: the copy with v struck out holds the links that avoid v.
 use mathlib.Core.Path.{_∙_, ap}
-use mathlib.Core.Bool.{Bool, not}
 use mathlib.Core.List.{List}
 use Prim.Native.Nat.{ℕ}
 use borrow.Author.Needs.{needs}

@@ -18,8 +18,8 @@ restrict-requires c κs = search needs
 returns : tie.Need-returns
 unfolding avoid among
 returns c = c .restrict .ensures ∙ tableFrom-cong _ _ (λ a b k l.
-      ap₂ (λ (x y : Bool). x & y & edgeOf (c .before .before .args .t) a b) (others _ (c .before .without .ensures) a k)
-      (others _ (c .before .without .ensures) b l))
+    ap₂ (λ (x y : Bool). x & y & edgeOf (c .before .before .args .t) a b) (others _ (c .before .without .ensures) a k)
+    (others _ (c .before .without .ensures) b l))
 
 pub strike-spec : {M : Type 1} → statement M
 strike-spec = tie.close (tie.spec without-requires restrict-requires returns)

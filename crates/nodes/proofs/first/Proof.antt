@@ -1,6 +1,6 @@
 -- `nodes::first` meets its contract: `(1 << n) - 1` is the set of the first n, and `!0` that of all.
 use mathlib.Core.Path.{_∙_, ap, subst⁻¹}
-use Prim.Native.Nat.{ℕ, _*_, _%_, _^_, _≤_}
+use Prim.Native.Nat.{ℕ, _%_, _^_, _≤_}
 use native.Mathlib.Nat.{one-mul, mod-eq-of-lt}
 use borrow.Author.Needs.{needs}
 use lib.Pow.{pow-pos, pow-lt}

@@ -3,7 +3,7 @@ use mathlib.Core.Path.{_≡_, sym, ap}
 use mathlib.Core.List.{List}
 use Prim.Native.Nat.{ℕ, _-_, _≤_, _<_}
 use native.Mathlib.Omega.{arith}
-use borrow.Author.Count.{below-none, below-more}
+use borrow.Author.Count.{below-more}
 use lib.ListN.{length, getD}
 use lib.Seq.{ext-getD}
 use Rattle.finite.proofs.Lists.{eq-alike, ne-alike}
