@@ -1,5 +1,5 @@
 -- What is appended stands behind what was written.
-use mathlib.Core.Path.{_≡_, refl, sym, _∙_, ap}
+use mathlib.Core.Path.{_≡_, refl, sym, _∙_, ap, subst⁻¹}
 use mathlib.Core.List.{List, [], _++_}
 use Prim.Native.Nat.{ℕ, _+_, _≤_, _<_, zero-le}
 use native.Mathlib.Omega.{arith}
@@ -27,9 +27,12 @@ behind l k s h =
     ap (take (k + length s)) (sets-eq s l k h) ∙ take-at (take k l ++ s) (drop (k + length s) l) (k + length s) e
 
 -- nothing at first
-pub holds-none : Holds emptyOf [] 0
+none-held : Holds emptyOf [] 0
 unfolding emptyOf
-holds-none = record { size = length-replicate {A = ℕ} roomSize 0; len-is = refl; bound = zero-le; content-is = refl }
+none-held = record { size = length-replicate {A = ℕ} roomSize 0; len-is = refl; bound = zero-le; content-is = refl }
+
+pub holds-none : {g : Grown} → g ≡ emptyOf → Holds g [] 0
+holds-none e = subst⁻¹ (λ (x : Grown). Holds x [] 0) e none-held
 
 -- what is appended, where there is room, stands behind what was held
 pub holds-more : {g r : Grown} {s : List ℕ} {k : ℕ} (x : List ℕ) (j : ℕ) → Holds g s k → r ≡ appended g x → length x ≤ j → k + j ≤ roomSize

@@ -9,7 +9,7 @@ use Rattle.grown.specs.declared.Grown.{Grown}
 
 -- how much it holds at the most
 abbrev pub roomSize : ℕ
-roomSize = 16384
+roomSize = 20480
 
 -- what is written so far
 abbrev pub content : Grown → List ℕ

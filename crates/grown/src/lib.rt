@@ -4,7 +4,7 @@ ghost use mathlib.Core.List.{[], _∷_};
 ghost use Rattle.grown.specs.Grown.{emptyOf, appended};
 
 // How much it holds at the most.
-pub const ROOM: usize = 16384;
+pub const ROOM: usize = 20480;
 
 pub struct Grown {
     pub bytes: [u8; ROOM],

@@ -1,0 +1,27 @@
+-- 01, "Programs": "Fields of a printed line stand one space apart; a line feed closes it."
+use mathlib.Core.List.{List, [], _∷_, _++_}
+use Prim.Native.Nat.{ℕ}
+use Rattle.refusal.specs.declared.Refusal.{Refusal}
+use Rattle.refusal.specs.Number.{numberOf, placeOf}
+use Rattle.text.specs.Text.{decimalOf}
+
+-- a number as a further field: a space before it
+abbrev pub fieldOf : ℕ → List ℕ
+fieldOf n = 32 ∷ decimalOf n
+
+-- numbers as further fields
+unfoldable pub fieldsOf : List ℕ → List ℕ
+fieldsOf [] = []
+fieldsOf (n ∷ ns) = fieldOf n ++ fieldsOf ns
+
+-- a line that begins with a word or number, has these numbers behind it, and is closed by a line feed
+abbrev pub lineOf : List ℕ → List ℕ → List ℕ
+lineOf first numbers = (first ++ fieldsOf numbers) ++ (10 ∷ [])
+
+-- "refused"
+abbrev pub refusedWord : List ℕ
+refusedWord = 114 ∷ 101 ∷ 102 ∷ 117 ∷ 115 ∷ 101 ∷ 100 ∷ []
+
+-- "`refused`, number, place"
+unfoldable pub refusalLine : Refusal → List ℕ
+refusalLine r = lineOf refusedWord (numberOf r ∷ placeOf r ∷ [])
