@@ -1,2 +1,3 @@
 pub mod Cabling
 pub mod Faults
+pub mod Verdicts

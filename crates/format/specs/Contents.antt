@@ -31,8 +31,8 @@ lengthAt b i = numberAt b (6 + 6 * i)
 unfoldable pub entryOf : List ℕ → ℕ → Entry
 entryOf b i =
     elim (below 1 (length b) & below i (getD b 1 0) & leb (8 + 6 * i) (length b)) [
-      true ↦ At (kindAt b i) (secondAt b i) (offsetAt b i) (lengthAt b i)
-    | false ↦ Nothing
+      | true ↦ At (kindAt b i) (secondAt b i) (offsetAt b i) (lengthAt b i)
+      | false ↦ Nothing
     ]
 
 -- "Bodies follow in entry order with no gap, the first right after the contents": where body i of k begins

@@ -1,2 +1,3 @@
 pub mod Contents
 pub mod Bytes
+pub mod Order

@@ -12,3 +12,7 @@ pub record Holds (g : Grown) (s : List ℕ) (k : ℕ) : Type 0 where
   pub len-is : g .len ≡ length s
   pub bound : length s ≤ k
   pub content-is : content g ≡ s
+
+-- it holds just the bytes that its length counts
+abbrev pub Held : Grown → Type 0
+Held g = (g .len ≡ length (content g)) × (g .len ≤ length (g .bytes))

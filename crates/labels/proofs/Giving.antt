@@ -17,13 +17,9 @@ use Rattle.network.specs.Table.{edgeOf, tableFrom, remaining}
 use Rattle.network.proofs.Meaning.{edge-remaining, strike-remaining}
 use Rattle.rule.specs.Candidate.{choice}
 use Rattle.rule.specs.Labels.{remains, give, stage, labelled}
-use Rattle.rule.proofs.Stages.{remains-start, remains-set}
+use Rattle.rule.proofs.Stages.{give-length, remains-start, remains-set}
 use Rattle.labels.specs.Links.{choiceBy}
 use Rattle.labels.proofs.Remaining.{choice-links}
-
-give-length : (n v k : ℕ) (labels : List ℕ) → length (give n v k labels) ≡ length labels
-unfolding give
-give-length n v k labels = bcase (below v n) (λ t. rw (t, give) (length-set labels v k)) (λ t. rw (t, give))
 
 -- giving v a label takes it out of what remains, and so does giving none to a v that is no node
 remains-give : (n m v k : ℕ) (labels : List ℕ) → length labels ≡ n → m ≤ n → remains m (give n v (suc k) labels) ≡ without (remains m labels) v

@@ -41,6 +41,16 @@ remains-set m v k labels l =
     ap (λ (x : ℕ). below u m & same x 0) (getD-set-other labels v u (suc k) 0 (λ e. d (sym e)))
     ∙ iff _ _ (λ h. both h (true-non t)) (λ h. and-l _ _ h)))
 
+pub give-length : (n v k : ℕ) (labels : List ℕ) → length (give n v k labels) ≡ length labels
+unfolding give
+give-length n v k labels = bcase (below v n) (λ t. rw (t, give) (length-set labels v k)) (λ t. rw (t, give))
+
+-- there are always n labels
+pub labelled-length : (n : ℕ) (edge : ℕ → ℕ → Bool) (m k : ℕ) → length (labelled n edge m k) ≡ n
+unfolding labelled stage
+labelled-length n edge m zero = length-replicate {A = ℕ} n 0
+labelled-length n edge m (suc k) = give-length n _ (suc k) (labelled n edge m k) ∙ labelled-length n edge m k
+
 module _ (n : ℕ) (edge : ℕ → ℕ → Bool) (net : Network n edge) (m : ℕ) (small : m ≤ n) (whole : Connected edge (λ v. below v m)) where
   -- the state after k stages
   pub record Staged (k : ℕ) : Type 0 where

@@ -1,0 +1,48 @@
+-- The lowest node of the first n outside what the flood from node 0 has seen is the lowest that is not reached.
+use mathlib.Core.Path.{_≡_, refl, sym, _∙_, ap}
+use mathlib.Core.Bool.{Bool, true, false}
+use Prim.Native.Nat.{ℕ, _≤_, _<_}
+use native.Mathlib.Omega.{arith}
+use Rattle.finite.specs.Truth.{_&_, non, same, below}
+use Rattle.finite.specs.Search.{least}
+use Rattle.finite.specs.Sets.{has, setOf}
+use Rattle.finite.proofs.Truth.{no-tf, bcase, refute, both, and-r, true-non, lt-below, below-lt, below-le}
+use Rattle.finite.proofs.Search.{least-fact, least-before, least-unique, least-cong}
+use Rattle.finite.proofs.Sets.{has-out, has-setOf}
+use Rattle.graph.specs.Reach.{reach}
+use Rattle.graph.proofs.Reach.{reach-lt, reach-cong}
+use Rattle.nodes.specs.Limits.{maxNodes}
+use Rattle.nodes.proofs.Words.{lowest-setOf}
+use Rattle.cabling.specs.Faults.{unreached}
+
+-- the least of the first n, sought among the first m: what stands past them passes
+module _ (n m : ℕ) {p : ℕ → Bool} {v : ℕ} (past : (u : ℕ) → m ≤ u → p u ≡ true) (e : v ≡ least m (λ u. below u n & p u)) where
+  before : (u : ℕ) → u < n → u < v → p u ≡ false
+  before u k l = refute (p u) (λ t. no-tf (both (lt-below k) t) (least-before m (λ x. below x n & p x) u (omega arith)))
+
+  pub least-found-among : v < n → v ≡ least n p
+  least-found-among l =
+      sym (least-unique n p v (omega arith)
+      (λ k.
+      bcase (below v m)
+      (λ t. let j = below-lt v m t in ap p e ∙ and-r _ _ (least-fact m (λ x. below x n & p x) (omega arith)))
+      (λ t. past v (below-le v m t))) (λ u k. before u (omega arith) k))
+
+  pub least-none-among : n ≤ v → n ≡ least n p
+  least-none-among l = sym (least-unique n p n (omega arith) (λ k. absurd (omega arith)) (λ u k. before u k (omega arith)))
+
+module _ (edge : ℕ → ℕ → Bool) where
+  pub unreached-past : (u : ℕ) → maxNodes ≤ u → unreached edge u ≡ true
+  unfolding unreached
+  unreached-past u l = true-non (has-out _ maxNodes u (reach-lt maxNodes edge (same 0)) l)
+
+  pub apart-word : (n : ℕ) {one seen first left v : ℕ} → one ≡ setOf maxNodes (same 0) → seen ≡ reach maxNodes edge (has one)
+      → first ≡ setOf maxNodes (λ u. below u n) → left ≡ setOf maxNodes (λ u. has first u & non (has seen u)) → v ≡ least maxNodes (has left)
+      → v ≡ least maxNodes (λ u. below u n & unreached edge u)
+  unfolding unreached
+  apart-word n {one} {seen} {first} {left} eo es ef el ev =
+      ev ∙ ap (λ (w : ℕ). least maxNodes (has w)) el ∙ lowest-setOf maxNodes _
+      ∙ least-cong maxNodes _ _ (λ u l.
+      ap (λ (b : Bool). b & non (has seen u)) (ap (λ (w : ℕ). has w u) ef ∙ has-setOf maxNodes _ u l)
+      ∙ ap (λ (w : ℕ). below u n & non (has w u))
+      (es ∙ reach-cong maxNodes edge edge (λ a b k j. refl) (has one) (same 0) (λ x k. ap (λ (w : ℕ). has w x) eo ∙ has-setOf maxNodes _ x k)))

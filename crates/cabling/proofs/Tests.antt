@@ -1,0 +1,66 @@
+-- Each test of the checks decides between two plain facts.
+use mathlib.Core.Path.{_≡_}
+use mathlib.Core.Bool.{Bool, true}
+use mathlib.Core.List.{List}
+use mathlib.Core.Logic.{_⊎_}
+use Prim.Native.Nat.{ℕ, _*_, _-_, _%_, _≤_, _<_}
+use native.Mathlib.Omega.{arith}
+use lib.ListN.{length}
+use Rattle.finite.specs.Truth.{same}
+use Rattle.finite.specs.Sum.{count}
+use Rattle.finite.specs.Sets.{has}
+use Rattle.finite.proofs.Truth.{no-tf, same-eq, same-refl}
+use Rattle.graph.specs.Network.{Walk}
+use Rattle.graph.specs.Reach.{reach}
+use Rattle.graph.proofs.Reach.{reach-from, reach-walk}
+use Rattle.nodes.specs.Limits.{maxNodes, maxLinks, maxDegree}
+use Rattle.network.proofs.Meaning.{pairs-network}
+use Rattle.cabling.specs.Cabling.{links, EndsFine, Above}
+use Rattle.cabling.specs.Faults.{counted, shaped, badEnds, rises, notAbove, badPair, crowded, unreached}
+use Rattle.cabling.specs.Verdicts.{Counted, Shaped, EndsBad, OrderBad, PairFine}
+use Rattle.cabling.proofs.Decide.{Decides, decide-below, decide-leb, decide-same, decide-eqb, decide-non, decide-not, decide-and, decide-or}
+
+pub decide-counted : (n : ℕ) → Decides (counted n) (Counted n) ((n < 2) ⊎ (maxNodes < n))
+unfolding counted
+decide-counted n = decide-and (decide-leb 2 n) (decide-leb n maxNodes)
+
+pub decide-shaped : (pairs : List ℕ) → Decides (shaped pairs) (Shaped pairs) ((length pairs % 2 ≡ 0 → ⊥) ⊎ (2 * maxLinks < length pairs))
+unfolding shaped
+decide-shaped pairs = decide-and (decide-eqb _ _) (decide-leb _ _)
+
+pub decide-rises : (pairs : List ℕ) (p q : ℕ) → Decides (rises pairs p q) (Above pairs p q) (Above pairs p q → ⊥)
+unfolding rises
+decide-rises pairs p q = decide-not (decide-or (decide-below _ _) (decide-and (decide-same _ _) (decide-below _ _)))
+
+pub decide-order : (pairs : List ℕ) (p : ℕ) → Decides (notAbove pairs p) (OrderBad pairs p) ((p ≡ 0) ⊎ Above pairs (p - 1) p)
+unfolding notAbove
+decide-order pairs p = decide-and (decide-non (decide-same p 0)) (decide-non (decide-rises pairs (p - 1) p))
+
+module _ (n : ℕ) (pairs : List ℕ) (p : ℕ) where
+  pub decide-ends : Decides (badEnds n pairs p) (EndsBad n pairs p) (EndsFine n pairs p)
+  unfolding badEnds
+  decide-ends = decide-or (decide-non (decide-below _ _)) (decide-non (decide-below _ _))
+
+  pub decide-pair : Decides (badPair n pairs p) (EndsBad n pairs p ⊎ OrderBad pairs p) (PairFine n pairs p)
+  unfolding badPair
+  decide-pair = decide-or decide-ends (decide-order pairs p)
+
+pub decide-crowded : (edge : ℕ → ℕ → Bool) (v : ℕ) → Decides (crowded edge v) (maxDegree < count maxNodes (edge v)) (count maxNodes (edge v) ≤ maxDegree)
+unfolding crowded
+decide-crowded edge v = decide-below _ _
+
+-- the flood from node 0 reaches just the nodes that walks lead to
+decide-reached : (pairs : List ℕ) (v : ℕ)
+    → Decides (has (reach maxNodes (links pairs) (same 0)) v) (Walk (links pairs) 0 v) (Walk (links pairs) 0 v → ⊥)
+decide-reached pairs v =
+    let walk : Walk (links pairs) 0 v → has (reach maxNodes (links pairs) (same 0)) v ≡ true =
+    reach-walk maxNodes (links pairs) (pairs-network pairs .inside) (same 0) (omega arith) (same-refl 0) in
+    record {
+      yes = λ t. let f = reach-from maxNodes (links pairs) (same 0) v t in rw (same-eq _ _ (f .fact)) (f .walk);
+      no = λ t w. no-tf (walk w) t;
+      never = λ w n. n w;
+    }
+
+pub decide-unreached : (pairs : List ℕ) (v : ℕ) → Decides (unreached (links pairs) v) (Walk (links pairs) 0 v → ⊥) (Walk (links pairs) 0 v)
+unfolding unreached
+decide-unreached pairs v = decide-non (decide-reached pairs v)

@@ -1,0 +1,35 @@
+-- `cabling::rises` meets its contract: equal first ends leave it to the second.
+use mathlib.Core.Logic.{inl, inr, ⊎-elim}
+use native.Mathlib.Omega.{arith}
+use borrow.Author.Needs.{needs}
+use Rattle.cabling.proofs.Decide.{agree, decide-ltb}
+use Rattle.cabling.proofs.Tests.{decide-rises}
+use Rattle.cabling.proofs.rises.Statement.{statement}
+use Rattle.cabling.proofs.rises.Tie as tie
+
+low-end-requires : tie.Need-low-end-requires
+low-end-requires c κs = search needs
+
+low-end-requires-2 : tie.Need-low-end-requires-2
+low-end-requires-2 c κs = search needs
+
+high-end-requires : tie.Need-high-end-requires
+high-end-requires c κs = search needs
+
+high-end-requires-2 : tie.Need-high-end-requires-2
+high-end-requires-2 c κs = search needs
+
+returns : tie.Need-returns
+returns c =
+    agree (decide-ltb (c .before .high-end .result) (c .high-end2 .result)) (decide-rises _ _ _) (λ h. inr (omega arith, omega arith))
+    (λ h. ⊎-elim (λ l. omega arith) (λ k. let l = k .1 in omega arith))
+
+returns-2 : tie.Need-returns-2
+returns-2 c =
+    agree (decide-ltb (c .before .before .low-end .result) (c .before .low-end2 .result)) (decide-rises _ _ _) (λ h. inl (omega arith))
+    (λ h. ⊎-elim (λ l. omega arith) (λ k. let e = k .0 in omega arith))
+
+pub rises-spec : {M : Type 1} → statement M
+rises-spec =
+    tie.close
+    (tie.spec low-end-requires low-end-requires-2 high-end-requires high-end-requires-2 returns returns-2)

@@ -1,0 +1,23 @@
+-- Each promise determines its answer: two outcomes that it allows are equal.
+use mathlib.Core.Path.{_≡_, sym, _∙_}
+use mathlib.Core.Bool.{Bool}
+use mathlib.Core.List.{List}
+use Prim.Native.Nat.{ℕ}
+use Rattle.format.specs.Contents.{entryOf, inOrder, nodesIn, zeroIn, pairsIn}
+use Rattle.format.specs.declared.Entry.{Entry}
+
+module _ (b : List ℕ) where
+  pub entry-determined : (i : ℕ) (r s : Entry) → r ≡ entryOf b i → s ≡ entryOf b i → r ≡ s
+  entry-determined i r s p q = p ∙ sym q
+
+  pub in-order-determined : (k : ℕ) (r s : Bool) → r ≡ inOrder b k → s ≡ inOrder b k → r ≡ s
+  in-order-determined k r s p q = p ∙ sym q
+
+  pub nodes-determined : (r s : ℕ) → r ≡ nodesIn b → s ≡ nodesIn b → r ≡ s
+  nodes-determined r s p q = p ∙ sym q
+
+  pub zero-determined : (r s : ℕ) → r ≡ zeroIn b → s ≡ zeroIn b → r ≡ s
+  zero-determined r s p q = p ∙ sym q
+
+  pub pairs-determined : (r s : List ℕ) → r ≡ pairsIn b → s ≡ pairsIn b → r ≡ s
+  pairs-determined r s p q = p ∙ sym q

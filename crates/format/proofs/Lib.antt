@@ -1,0 +1,7 @@
+pub mod Slices
+pub mod Contents
+pub mod Order
+pub mod Written
+pub mod Bodies
+pub mod First
+pub mod Determined
