@@ -1,5 +1,5 @@
 -- What is appended stands behind what was written.
-use mathlib.Core.Path.{_≡_, refl, sym, _∙_, ap, subst⁻¹}
+use mathlib.Core.Path.{_≡_, refl, sym, _∙_, ap, subst, subst⁻¹}
 use mathlib.Core.List.{List, [], _++_}
 use Prim.Native.Nat.{ℕ, _+_, _≤_, _<_, zero-le}
 use native.Mathlib.Omega.{arith}
@@ -8,7 +8,7 @@ use lib.Seq.{sets, sets-eq, length-sets, length-take-le, take-at}
 use borrow.Author.Tests.{le-leb, lt-leb}
 use Rattle.grown.specs.declared.Grown.{Grown}
 use Rattle.grown.specs.Grown.{roomSize, content, emptyOf, appended}
-use Rattle.grown.specs.Holds.{Holds}
+use Rattle.grown.specs.Holds.{Holds, Held}
 
 -- no room, and room
 pub no-room : (g : Grown) (s : List ℕ) → roomSize < g .len + length s → g ≡ appended g s
@@ -49,3 +49,17 @@ holds-more {g} {r} {s} {k} x j h e b l =
       bound = omega arith;
       content-is = ap content q ∙ behind (g .bytes) (g .len) x (rw (h .size) fits) ∙ ap (λ (y : List ℕ). y ++ x) (h .content-is)
     }
+
+-- a bound may be loosened, and what is held may be said in another way
+pub holds-as : {g : Grown} {s t : List ℕ} {k : ℕ} (j : ℕ) → Holds g s k → s ≡ t → k ≤ j → Holds g t j
+holds-as {g} {s} {t} {k} j h e l =
+    let b = h .bound in
+    subst (λ (x : List ℕ). Holds g x j) e (record { size = h .size; len-is = h .len-is; bound = omega arith; content-is = h .content-is })
+
+-- what holds some bytes holds what its length counts
+pub holds-held : {g : Grown} {s : List ℕ} {k : ℕ} → Holds g s k → k ≤ roomSize → Held g
+holds-held {g} h l =
+    let e = h .len-is in
+    let b = h .bound in
+    let z = h .size in
+    (h .len-is ∙ sym (ap length (h .content-is)), omega arith)

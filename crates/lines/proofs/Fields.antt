@@ -8,15 +8,9 @@ use lib.ListN.{length}
 use Rattle.grown.specs.declared.Grown.{Grown}
 use Rattle.grown.specs.Grown.{roomSize, appended}
 use Rattle.grown.specs.Holds.{Holds}
-use Rattle.grown.proofs.Behind.{holds-more}
+use Rattle.grown.proofs.Behind.{holds-more, holds-as}
 use Rattle.text.specs.Text.{decimalOf}
 use Rattle.lines.specs.Lines.{fieldOf, fieldsOf}
-
--- a bound may be loosened, and what is held may be said in another way
-pub holds-as : {g : Grown} {s t : List ℕ} {k : ℕ} (j : ℕ) → Holds g s k → s ≡ t → k ≤ j → Holds g t j
-holds-as {g} {s} {t} {k} j h e l =
-    let b = h .bound in
-    subst (λ (x : List ℕ). Holds g x j) e (record { size = h .size; len-is = h .len-is; bound = omega arith; content-is = h .content-is })
 
 -- a further field of at most d digits
 pub holds-field : {g r : Grown} {s : List ℕ} {k : ℕ} (n d : ℕ) → Holds g s k → r ≡ appended (appended g (32 ∷ [])) (decimalOf n)

@@ -5,9 +5,9 @@ use Prim.Native.Nat.{ℕ}
 use native.Mathlib.Nat.{le-refl}
 use lib.Dec.{lit≤}
 use Rattle.text.proofs.Decimal.{decimal-bound}
-use Rattle.grown.proofs.Behind.{holds-none, holds-more}
+use Rattle.grown.proofs.Behind.{holds-none, holds-more, holds-as}
 use Rattle.lines.specs.Lines.{fieldOf, fieldsOf, lineOf, refusedWord, refusalLine}
-use Rattle.lines.proofs.Fields.{holds-as, holds-field, fields-none, fields-more}
+use Rattle.lines.proofs.Fields.{holds-field, fields-none, fields-more}
 use borrow.Author.Needs.{needs}
 use Rattle.lines.proofs.refusal_line.Statement.{statement}
 use Rattle.lines.proofs.refusal_line.Tie as tie

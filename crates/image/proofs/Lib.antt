@@ -1,0 +1,3 @@
+pub mod Faults
+pub mod Assembled
+pub mod Reading

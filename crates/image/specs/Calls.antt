@@ -1,0 +1,66 @@
+-- What read, write, build and route answer, and what they leave in the lent buffer. The order of refusals: 1, 2, 3; then the first bad pair; 6, 7, 8, 10, 9.
+use mathlib.Core.Path.{_≡_}
+use mathlib.Core.Bool.{Bool, true, false}
+use mathlib.Core.List.{List, [], _∷_}
+use Prim.Native.Nat.{ℕ, _/_}
+use lib.Dec.{leb}
+use lib.ListN.{length}
+use Rattle.finite.specs.Truth.{_&_, same, below}
+use Rattle.finite.specs.Lists.{alike}
+use Rattle.nodes.specs.Limits.{maxNodes}
+use Rattle.refusal.specs.declared.Refusal.the-variants.{Contents, Count, Shape, Differs, Unknown}
+use Rattle.refusal.specs.declared.Verdict.{Verdict}
+use Rattle.refusal.specs.declared.Verdict.the-variants.{Fine, Fault}
+use Rattle.cabling.specs.Cabling.{links}
+use Rattle.cabling.specs.Faults.{faultOf}
+use Rattle.lawful.specs.Entry.{routeOf}
+use Rattle.format.specs.Contents.{inOrder, linksKinds, fullKinds, nodesIn, zeroIn, pairsIn}
+use Rattle.written.specs.declared.Written.{Written}
+use Rattle.written.specs.declared.Written.the-variants.{Bytes, NotWritten}
+use Rattle.written.specs.Written.{writtenOf, writtenInto}
+use Rattle.image.specs.Image.{labelOf, imageOf}
+use Rattle.image.specs.declared.Outcome.{Outcome}
+use Rattle.image.specs.declared.Outcome.the-variants.{Read, NotRead}
+
+-- 2 to 7: what kind 1 holds
+unfoldable pub cablingFault : List ℕ → Verdict
+cablingFault b =
+    elim (leb 2 (nodesIn b) & leb (nodesIn b) maxNodes) [
+      false ↦ Fault Count
+    | true ↦ elim (same (zeroIn b) 0) [ false ↦ Fault Shape | true ↦ faultOf (nodesIn b) (pairsIn b) ]
+    ]
+
+-- 8: "kind 2, 3 or 4 differs, in length or bytes, from what the rules give", where contents and kind 1 are in order
+unfoldable pub tablesFault : List ℕ → Verdict
+tablesFault b = elim (alike b (imageOf true (nodesIn b) (pairsIn b))) [ true ↦ Fine | false ↦ Fault Differs ]
+
+-- 1 to 7 of a links image alone, and 1 to 8 of either image
+unfoldable pub linksFault : List ℕ → Verdict
+linksFault b = elim (inOrder b linksKinds) [ true ↦ cablingFault b | false ↦ Fault Contents ]
+
+-- the second verdict where the first is fine
+unfoldable pub andThen : Verdict → Verdict → Verdict
+andThen Fine w = w
+andThen (Fault r) w = Fault r
+
+unfoldable pub imageFault : List ℕ → Verdict
+imageFault b = elim (inOrder b fullKinds) [ true ↦ andThen (cablingFault b) (tablesFault b) | false ↦ linksFault b ]
+
+-- the read call "answers N, M and which image it was, and writes the pairs"
+unfoldable pub outcomeOf : List ℕ → Written → Outcome
+outcomeOf b (Bytes m) = Read (nodesIn b) (m / 2) (inOrder b fullKinds)
+outcomeOf b (NotWritten r) = NotRead r
+
+pub record Reads (b before : List ℕ) (answer : Outcome) (after : List ℕ) : Type 0 where
+  pub answers : answer ≡ outcomeOf b (writtenOf (imageFault b) (pairsIn b) (length before))
+  pub leaves : after ≡ writtenInto (imageFault b) (pairsIn b) before
+
+-- the route call: 10 for a node ≥ N, and the nodes of the route, "source first"
+unfoldable pub endsFault : List ℕ → ℕ → ℕ → Verdict
+endsFault b s t = elim (below s (nodesIn b) & below t (nodesIn b)) [ true ↦ Fine | false ↦ Fault (Unknown 0) ]
+
+abbrev pub routeFault : List ℕ → ℕ → ℕ → Verdict
+routeFault b s t = andThen (imageFault b) (endsFault b s t)
+
+abbrev pub routeBytes : List ℕ → ℕ → ℕ → List ℕ
+routeBytes b s t = s ∷ routeOf maxNodes (links (pairsIn b)) (labelOf (nodesIn b) (pairsIn b)) s t

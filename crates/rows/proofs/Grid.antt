@@ -1,0 +1,164 @@
+-- A square table in one list: cell v * m + t stands in row v and column t. A column is placed cell by cell, and the columns together make the table.
+use mathlib.Core.Path.{_≡_, refl, sym, _∙_, ap, ap₂}
+use mathlib.Core.Bool.{Bool, true, false}
+use mathlib.Core.List.{List, [], _∷_, _++_}
+use Prim.Native.Nat.{ℕ, zero, suc, _+_, _-_, _*_, _/_, _%_, _≤_, _<_, zero-le}
+use native.Mathlib.Nat.{le-refl, not-suc-le-zero, mul-add-div-right, mul-add-mod-self-right, mod-eq-of-lt, mod-lt, div-eq-of-lt, div-add-mod', div-lt-iff-lt-mul, le-div-iff-mul-le, mul-le-mul, mul-lt-mul-of-pos-right, add-zero}
+use native.Mathlib.Omega.{arith}
+use lib.ListN.{length, getD, set, take, replicate, length-set, length-append, length-replicate, List·getD-eq-default}
+use lib.Seq.{take-append-seam, getD-set-same, getD-set-other, ext-getD}
+use Rattle.finite.specs.Truth.{_&_, same, below}
+use Rattle.finite.specs.Lists.{tabulate}
+use Rattle.finite.proofs.Truth.{no-tf, bcase, iff, refute, both, and-l, and-r, and-true, and-false, true-and, false-and, same-eq, same-ne, same-refl, eq-same, ne-same, below-lt, below-le, lt-below, le-below}
+use Rattle.finite.proofs.Lists.{getD-zeros, tabulate-length, tabulate-at, tabulate-out, tabulate-ext}
+use Rattle.nodes.specs.Limits.{maxNodes}
+use Rattle.rows.specs.Search.{pick}
+use Rattle.rows.specs.Tables.{tableSize, padded, placedOf}
+
+-- ---- where a cell stands
+
+module _ (m d : ℕ) (low : d < m) where
+  pub cell-row : (v : ℕ) → (v * m + d) / m ≡ v
+  cell-row v = mul-add-div-right (omega arith) v d ∙ ap (λ (x : ℕ). v + x) (div-eq-of-lt low) ∙ add-zero v
+
+  pub cell-column : (v : ℕ) → (v * m + d) % m ≡ d
+  cell-column v = mul-add-mod-self-right v m d ∙ mod-eq-of-lt low
+
+  -- a cell of the table is one of its m * m cells
+  pub cell-lt : (v : ℕ) → v < m → v * m + d < m * m
+  cell-lt v l = let b : suc v * m ≤ m * m = mul-le-mul l (le-refl m) in omega arith
+
+-- a cell is given by its row and its column
+pub cell-is : (m i v d : ℕ) → i / m ≡ v → i % m ≡ d → i ≡ v * m + d
+cell-is m i v d p q = sym (div-add-mod' i m) ∙ ap₂ (λ (x y : ℕ). x * m + y) p q
+
+-- no more than 64 rows fill no more than the whole table
+pub square-le : (m : ℕ) → m ≤ maxNodes → m * m ≤ tableSize
+square-le m l = mul-le-mul l l
+
+-- every cell of such a table fits
+pub cell-fits : (m d v : ℕ) → m ≤ maxNodes → d < m → v < m → v * m + d < tableSize
+cell-fits m d v few low l = let a = cell-lt m d low v l in let b = square-le m few in omega arith
+
+square-pos : (m i : ℕ) → i < m * m → 0 < m
+square-pos zero i l = absurd (not-suc-le-zero l)
+square-pos (suc m) i l = omega arith
+
+-- one number more
+below-next : (a v : ℕ) → (a ≡ v → ⊥) → below a v ≡ below a (v + 1)
+below-next a v d =
+    iff _ _ (λ t. let l = below-lt _ _ t in lt-below (omega arith)) (λ t. let l = below-lt _ _ t in lt-below (omega arith))
+
+-- ---- one column
+
+-- the cells of column d before row v are those of the column, the others are as they were
+pub record Placing (m d : ℕ) (column table next : List ℕ) (v : ℕ) : Type 0 where
+  pub size : length next ≡ tableSize
+  pub cells : (i : ℕ) → i < tableSize → getD next i 0 ≡ pick (same (i % m) d & below (i / m) v) (getD column (i / m) 0) (getD table i 0)
+
+pub placing-none : (m d : ℕ) (column : List ℕ) {table : List ℕ} → length table ≡ tableSize → Placing m d column table table 0
+placing-none m d column e = record {
+  size = e;
+  cells = λ i l. rw (le-below {a = i / m} zero-le, false-and);
+}
+
+pub placing-more : {m d : ℕ} {column table next : List ℕ} {v x : ℕ} → Placing m d column table next v → m ≤ maxNodes → d < m → v < m
+    → x ≡ getD column v 0 → Placing m d column table (set next (v * m + d) x) (v + 1)
+placing-more {m} {d} {column} {table} {next} {v} {x} h few low l e = record {
+  size = length-set next _ x ∙ h .size;
+  cells = λ i b.
+      bcase (same i (v * m + d))
+      (λ q.
+      let inside = cell-lt m d low v l in
+      let most = square-le m few in
+      let size = h .size in
+      rw (same-eq i (v * m + d) q, cell-row m d low v, cell-column m d low v, same-refl d, lt-below {a = v} {b = v + 1} (omega arith), and-true)
+      (getD-set-same next (v * m + d) x 0 (omega arith) ∙ e))
+      (λ q.
+      getD-set-other next (v * m + d) i x 0 (same-ne i (v * m + d) q) ∙ h .cells i b
+      ∙ bcase (same (i % m) d)
+      (λ t. rw (below-next (i / m) v (λ p. same-ne i (v * m + d) q (cell-is m i v d p (same-eq (i % m) d t)))))
+      (λ t. rw (t, and-false, and-false)));
+}
+
+pub placing-all : {m d : ℕ} {column table next : List ℕ} {v : ℕ} → Placing m d column table next v → v ≡ m → next ≡ placedOf m d column table
+unfolding placedOf
+placing-all {next = next} h e = tabulate-ext tableSize _ 0 next (h .size) (λ i l. rw e at (h .cells i l))
+
+-- ---- zeros behind a list
+
+zeros-behind : (l : List ℕ) (k i : ℕ) → getD (l ++ replicate k 0) i 0 ≡ getD l i 0
+zeros-behind [] k i = getD-zeros k i
+zeros-behind (x ∷ l) k zero = refl
+zeros-behind (x ∷ l) k (suc i) = zeros-behind l k i
+
+pub padded-at : (l : List ℕ) (i : ℕ) → getD (padded l) i 0 ≡ getD l i 0
+unfolding padded
+padded-at l i = zeros-behind l (tableSize - length l) i
+
+pub padded-length : (l : List ℕ) → length l ≤ tableSize → length (padded l) ≡ tableSize
+unfolding padded
+padded-length l h = simp (length-append, length-replicate) (omega arith)
+
+-- the list is the front of what is padded
+pub padded-front : (l : List ℕ) → take (length l) (padded l) ≡ l
+unfolding padded
+padded-front l = take-append-seam l (replicate (tableSize - length l) 0)
+
+-- ---- column by column
+
+-- the new column, where the cell stands in it; else what the first columns hold
+joined-cell : (s a b c : Bool) (x y : ℕ) → (s ≡ true → b ≡ true) → (s ≡ false → a ≡ b) → (s ≡ true → c ≡ true → x ≡ y)
+    → pick (s & c) x (pick (a & c) y 0) ≡ pick (b & c) y 0
+joined-cell s a b false x y p q r = rw (false-and s, false-and a, false-and b)
+joined-cell true a b true x y p q r = rw (true-and true, true-and b, p refl) (r refl refl)
+joined-cell false a b true x y p q r = rw (and-false true, q refl)
+
+module _ (m : ℕ) (f : ℕ → ℕ → ℕ) where
+  -- the first d columns hold f, every other cell is 0
+  pub record Columns (table : List ℕ) (d : ℕ) : Type 0 where
+    pub size : length table ≡ tableSize
+    pub cells : (i : ℕ) → i < tableSize → getD table i 0 ≡ pick (below (i % m) d & below (i / m) m) (f (i / m) (i % m)) 0
+
+  pub columns-none : Columns (replicate tableSize 0) 0
+  columns-none = record {
+    size = length-replicate {A = ℕ} tableSize 0;
+    cells = λ i l. rw (le-below {a = i % m} zero-le, and-false) (getD-zeros tableSize i);
+  }
+
+  pub columns-more : {table next column : List ℕ} {d : ℕ} → Columns table d → m ≤ maxNodes → column ≡ tabulate maxNodes (λ v. f v d)
+      → next ≡ placedOf m d column table → Columns next (d + 1)
+  unfolding placedOf
+  columns-more {table} {next} {column} {d} h few e p = record {
+    size = rw p (tabulate-length tableSize _);
+    cells = λ i l.
+        rw (p, tabulate-at tableSize _ i 0 l, h .cells i l)
+        (joined-cell (same (i % m) d) (below (i % m) d) (below (i % m) (d + 1)) (below (i / m) m) _ _
+        (λ t. let q = same-eq _ _ t in lt-below (omega arith))
+        (λ t. below-next (i % m) d (same-ne _ _ t))
+        (λ t b. let k = below-lt _ _ b in rw (e, tabulate-at maxNodes (λ v. f v d) (i / m) 0 (omega arith), ← same-eq _ _ t)));
+  }
+
+  -- the cells of a table of m rows and m columns
+  inside : (i : ℕ) → below (i % m) m & below (i / m) m ≡ below i (m * m)
+  inside i =
+      iff _ _
+      (λ t.
+      let a = below-lt _ _ (and-l _ _ t) in
+      let b = below-lt _ _ (and-r _ _ t) in
+      lt-below (div-lt-iff-lt-mul {k = m} {x = i} {y = m} (omega arith) .0 b))
+      (λ t.
+      let l = below-lt _ _ t in
+      let pos = square-pos m i l in
+      both (lt-below (mod-lt i pos)) (lt-below (div-lt-iff-lt-mul {k = m} {x = i} {y = m} pos .1 l)))
+
+  pub columns-all : {table : List ℕ} {d : ℕ} → Columns table d → m ≤ maxNodes → d ≡ m → table ≡ padded (tabulate (m * m) (λ i. f (i / m) (i % m)))
+  columns-all {table} h few e =
+      let g : ℕ → ℕ = λ i. f (i / m) (i % m) in
+      let long = tabulate-length (m * m) g in
+      let most = square-le m few in
+      ext-getD 0 table (padded (tabulate (m * m) g)) (h .size ∙ sym (padded-length (tabulate (m * m) g) (omega arith)))
+      (λ i l.
+      let size = h .size in
+      h .cells i (omega arith) ∙ rw (e, inside i, padded-at)
+      (bcase (below i (m * m)) (λ t. rw t (sym (tabulate-at (m * m) g i 0 (below-lt _ _ t)))) (λ t. rw t (sym (tabulate-out (m * m) g i 0 (below-le _ _ t))))))

@@ -1,0 +1,20 @@
+-- `rows::hop` meets its contract: the destination is below the length of the row exactly where nothing is refused.
+use Rattle.rows.proofs.Lookup.{hop-known, hop-unknown}
+use borrow.Author.Needs.{needs}
+use Rattle.rows.proofs.hop.Statement.{statement}
+use Rattle.rows.proofs.hop.Tie as tie
+
+row-requires : tie.Need-row-requires
+row-requires c κs = search needs
+
+shared-slice-read-t12 : tie.Need-shared-slice-read-t12
+shared-slice-read-t12 c = search needs
+
+returns : tie.Need-returns
+returns c = hop-known _ _ _ _ _ _ (c .before .before .row .ensures) (c .before .if1 .taken)
+
+returns-2 : tie.Need-returns-2
+returns-2 c = hop-unknown _ _ _ _ _ _ (c .before .row .ensures) (c .if1 .left)
+
+pub hop-spec : {M : Type 1} → statement M
+hop-spec = tie.close (tie.spec row-requires shared-slice-read-t12 returns returns-2)

@@ -1,0 +1,80 @@
+-- `rows::row` meets its contract: the part is that row of the table of its class, and nothing where the arguments have a fault.
+use mathlib.Core.Path.{_≡_, sym, _∙_}
+use mathlib.Core.Bool.{true}
+use native.Mathlib.Omega.{arith}
+use borrow.Author.Tests.{not-true, not-false}
+use denote.Ref.{now}
+use Rattle.rows.specs.Row.{rowKnown}
+use Rattle.rows.proofs.Grid.{square-le}
+use Rattle.rows.proofs.Lookup.{Faultless, known-faultless, row-refused, row-part, row-end, free-table, falling-table}
+use borrow.Author.Needs.{needs}
+use Rattle.rows.proofs.row.Statement.{statement}
+use Rattle.rows.proofs.row.Tie as tie
+
+known-requires : tie.Need-known-requires
+known-requires c κs = search needs
+
+slice-aggregate-result : tie.Need-slice-aggregate-result
+slice-aggregate-result c = search needs
+
+returns : tie.Need-returns
+returns c = sym (row-refused _ _ _ _ _ (sym (c .before .before .known .ensures) ∙ not-true _ (c .before .if1 .taken)))
+
+-- past the first test the arguments have no fault, and the row ends within its table
+good : (c : tie.Else1) →
+    let a = c .before .before .before .before .args in
+    rowKnown (now (a .free)) (now (a .falling)) (a .n) (a .node) (a .class) ≡ true
+good c = sym (c .before .known .ensures) ∙ not-false _ (c .if1 .left)
+
+faultless : (c : tie.Else1) →
+    let a = c .before .before .before .before .args in
+    Faultless (now (a .free)) (now (a .falling)) (a .n) (a .node) (a .class)
+faultless c = known-faultless _ _ _ _ _ (good c)
+
+mul-from : tie.Need-mul-from
+mul-from c = let k = faultless c in let e = row-end _ _ _ _ _ k in let b = square-le _ (k .most) in omega arith
+
+add-to : tie.Need-add-to
+add-to c = let k = faultless c in let e = row-end _ _ _ _ _ k in let b = square-le _ (k .most) in omega arith
+
+sub-result : tie.Need-sub-result
+sub-result c = search needs
+
+part-result-start : tie.Need-part-result-start
+part-result-start c = search needs
+
+part-result-end : tie.Need-part-result-end
+part-result-end c = let k = faultless (c .before) in let e = row-end _ _ _ _ _ k in omega arith
+
+sub-result-2 : tie.Need-sub-result-2
+sub-result-2 c = search needs
+
+part-result-start-2 : tie.Need-part-result-start-2
+part-result-start-2 c = search needs
+
+part-result-end-2 : tie.Need-part-result-end-2
+part-result-end-2 c = let k = faultless (c .before) in let e = row-end _ _ _ _ _ k in omega arith
+
+returns-2 : tie.Need-returns-2
+returns-2 c = row-part _ _ _ _ _ _ (good (c .before .before)) (free-table _ _ _ (c .before .if2 .taken))
+
+returns-3 : tie.Need-returns-3
+returns-3 c = row-part _ _ _ _ _ _ (good (c .before .before)) (falling-table _ _ _ (c .before .if2 .left))
+
+pub row-spec : {M : Type 1} → statement M
+row-spec =
+    tie.close
+    (tie.spec
+    known-requires
+    slice-aggregate-result
+    returns
+    mul-from
+    add-to
+    sub-result
+    part-result-start
+    part-result-end
+    sub-result-2
+    part-result-start-2
+    part-result-end-2
+    returns-2
+    returns-3)

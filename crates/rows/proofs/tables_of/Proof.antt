@@ -1,0 +1,78 @@
+-- `rows::tables_of` meets its contract. The invariant: the columns of the destinations below d are placed.
+use mathlib.Core.Path.{_≡_, sym}
+use Prim.Native.Nat.{_-_, _≤_, min}
+use native.Mathlib.Omega.{arith}
+use mathlib.Core.Logic.{⊎-elim}
+use lib.ListN.{getD}
+use Rattle.nodes.specs.Limits.{maxNodes}
+use Rattle.network.specs.Table.{edgeOf}
+use Rattle.rows.proofs.Tabling.{Tabling, tabling-none, tabling-more, tabling-all, up-length, down-length}
+use Rattle.rows.proofs.tables_of.Statement.{statement}
+use Rattle.rows.proofs.tables_of.Tie as tie
+
+abbrev Inv-loop : tie.InvT-loop
+Inv-loop t labels n m up down free₀ falling₀ d₀ free falling d = Tabling (edgeOf t) (λ u. getD labels u 0) m up down free falling d × (m ≡ min n maxNodes) × (d ≤ m)
+
+abbrev μ-loop : tie.MeasureT-loop
+μ-loop t labels n m up down free₀ falling₀ d₀ free falling d = m - d
+
+ways-of-requires : tie.Need-ways-of-requires Inv-loop μ-loop
+ways-of-requires c κs = tt
+
+loop-holds : tie.Need-loop-holds Inv-loop μ-loop
+loop-holds c =
+    let w = c .before .before in
+    let e : w .before .if1 .m ≡ min (w .before .before .before .before .args .n) maxNodes =
+    ⊎-elim (λ x. let t = x .0 .taken in omega arith) (λ x. let t = x .0 .left in omega arith) (w .before .if1 .came) in
+    (tabling-none _ _ (omega arith) (w .ways-of .ensures), e, omega arith)
+
+slice-aggregate-column-of : tie.Need-slice-aggregate-column-of Inv-loop μ-loop
+slice-aggregate-column-of c = sym (up-length _ _ (c .before .before .loop .inv .0))
+
+slice-aggregate-column-of-2 : tie.Need-slice-aggregate-column-of-2 Inv-loop μ-loop
+slice-aggregate-column-of-2 c = sym (down-length _ _ (c .before .before .before .loop .inv .0))
+
+column-of-requires : tie.Need-column-of-requires Inv-loop μ-loop
+column-of-requires c κs = omega arith
+
+placed-requires : tie.Need-placed-requires Inv-loop μ-loop
+placed-requires c κs = omega arith
+
+placed-requires-2 : tie.Need-placed-requires-2 Inv-loop μ-loop
+placed-requires-2 c κs = omega arith
+
+add-d : tie.Need-add-d Inv-loop μ-loop
+add-d c = omega arith
+
+loop-less : tie.Need-loop-less Inv-loop μ-loop
+loop-less c = omega arith
+
+loop-again : tie.Need-loop-again Inv-loop μ-loop
+loop-again c =
+    let p = c .before in
+    let o = p .before .before .before in
+    let l = o .before .before .before .before in
+    (tabling-more _ _ (l .loop .inv .0) (o .column-of .ensures) (p .placed .ensures) (c .placed2 .ensures), omega arith, omega arith)
+
+returns : tie.Need-returns Inv-loop μ-loop
+returns c =
+    let l = c .before .loop in
+    tabling-all _ _ (l .inv .0) (omega arith) (l .inv .1)
+
+pub tables-of-spec : {M : Type 1} → statement M
+tables-of-spec =
+    tie.close
+    (tie.spec
+    Inv-loop
+    μ-loop
+    ways-of-requires
+    loop-holds
+    slice-aggregate-column-of
+    slice-aggregate-column-of-2
+    column-of-requires
+    placed-requires
+    placed-requires-2
+    add-d
+    loop-less
+    loop-again
+    returns)

@@ -1,0 +1,73 @@
+-- `rows::ways_of` meets its contract. The invariant: both lists are filled from the front.
+use Prim.Native.Nat.{ℕ, _-_, _≤_}
+use native.Mathlib.Omega.{arith}
+use lib.ListN.{getD}
+use Rattle.finite.specs.Sets.{setOf}
+use Rattle.nodes.specs.Limits.{maxNodes}
+use Rattle.network.specs.Table.{edgeOf}
+use Rattle.lawful.specs.Turn.{rises, falls}
+use Rattle.rows.specs.Search.{waysOf}
+use Rattle.rows.proofs.Fill.{Filled, filled-none, filled-more, filled-all}
+use Rattle.rows.proofs.ways_of.Statement.{statement}
+use Rattle.rows.proofs.ways_of.Tie as tie
+
+abbrev Inv-loop : tie.InvT-loop
+Inv-loop t labels up₀ down₀ v₀ up down v =
+    Filled maxNodes (λ a. setOf maxNodes (rises (edgeOf t) (λ u. getD labels u 0) a)) up v × Filled maxNodes (λ a. setOf maxNodes (falls (edgeOf t) (λ u. getD labels u 0) a)) down v × (v ≤ maxNodes)
+
+abbrev μ-loop : tie.MeasureT-loop
+μ-loop t labels up₀ down₀ v₀ up down v = maxNodes - v
+
+loop-holds : tie.Need-loop-holds Inv-loop μ-loop
+loop-holds c = (filled-none _ (omega arith), filled-none _ (omega arith), omega arith)
+
+rising-requires : tie.Need-rising-requires Inv-loop μ-loop
+rising-requires c κs = tt
+
+mul-up : tie.Need-mul-up Inv-loop μ-loop
+mul-up c = omega arith
+
+array-write-up : tie.Need-array-write-up Inv-loop μ-loop
+array-write-up c = omega arith
+
+falling-requires : tie.Need-falling-requires Inv-loop μ-loop
+falling-requires c κs = tt
+
+mul-down : tie.Need-mul-down Inv-loop μ-loop
+mul-down c = omega arith
+
+array-write-down : tie.Need-array-write-down Inv-loop μ-loop
+array-write-down c = omega arith
+
+add-v : tie.Need-add-v Inv-loop μ-loop
+add-v c = omega arith
+
+loop-less : tie.Need-loop-less Inv-loop μ-loop
+loop-less c = omega arith
+
+loop-again : tie.Need-loop-again Inv-loop μ-loop
+loop-again c =
+    let inv = c .before .before .before .loop .inv in
+    (filled-more (inv .0) (omega arith) (c .before .rising .ensures), filled-more (inv .1) (omega arith) (c .falling .ensures), omega arith)
+
+returns : tie.Need-returns Inv-loop μ-loop
+unfolding waysOf
+returns c = let inv = c .before .loop .inv in λ i. record { up = filled-all (inv .0) (c .loop-test .left) i; down = filled-all (inv .1) (c .loop-test .left) i }
+
+pub ways-of-spec : {M : Type 1} → statement M
+ways-of-spec =
+    tie.close
+    (tie.spec
+    Inv-loop
+    μ-loop
+    loop-holds
+    rising-requires
+    mul-up
+    array-write-up
+    falling-requires
+    mul-down
+    array-write-down
+    add-v
+    loop-less
+    loop-again
+    returns)

@@ -1,0 +1,265 @@
+// The two tables of next-hop rows, each column found by one search backwards from its destination; and the calls that read a row or one byte of such tables.
+ghost use mathlib.Core.Path.{_≡_};
+ghost use Prim.Native.Nat.{_<_, _≤_, min};
+ghost use lib.ListN.{getD};
+ghost use Rattle.finite.specs.Truth.{_&_, _or_, same};
+ghost use Rattle.finite.specs.Search.{least};
+ghost use Rattle.finite.specs.Sets.{has};
+ghost use Rattle.nodes.specs.Limits.{maxNodes};
+ghost use Rattle.network.specs.Table.{edgeOf};
+ghost use Rattle.rows.specs.Search.{waysOf, startOf, admitted, halfOf, roundOf, rounds, searchAt, OfWays};
+ghost use Rattle.rows.specs.Tables.{columnOf, placedOf, tablesOf};
+ghost use Rattle.rows.specs.Row.{rowKnown, rowIn, hopIn};
+use nodes::MAX_NODES;
+use refusal::Refusal;
+
+// The bytes of a table with a row for each of 64 nodes.
+pub const TABLE: usize = MAX_NODES * MAX_NODES;
+
+// 01: "255 exactly when none exists"
+pub const NONE: u8 = 255;
+
+// After so many rounds of a search no node joins.
+const ROUNDS: usize = MAX_NODES + MAX_NODES;
+
+// For each node the neighbours that a hop rises to, and those that it falls to.
+struct Ways {
+    up: [u64; MAX_NODES],
+    down: [u64; MAX_NODES],
+}
+
+fn ways_of(t: &[u64], labels: &[u8]) -> Ways
+    ensures { λ r. ⌜ r ≡ waysOf (edgeOf (now (t .entry))) (λ u. getD (now (labels .entry)) u 0) ⌝ }
+{
+    let mut up = [0u64; MAX_NODES];
+    let mut down = [0u64; MAX_NODES];
+    for v in 0..MAX_NODES {
+        up[v] = turns::rising(t, labels, v);
+        down[v] = turns::falling(t, labels, v);
+    }
+    Ways { up, down }
+}
+
+// One class of a search: the nodes that have joined, and the entry of each of them.
+struct Side {
+    members: u64,
+    entries: [u8; MAX_NODES],
+}
+
+// Both classes.
+struct Search {
+    free: Side,
+    falling: Side,
+}
+
+// Before the first round the destination alone has joined.
+fn start(t: usize) -> Search
+    requires { ⌜ t < maxNodes ⌝ }
+    ensures { λ r. ⌜ r ≡ startOf t ⌝ }
+{
+    let mut entries = [NONE; MAX_NODES];
+    entries[t] = t as u8;
+    let side = Side {
+        members: nodes::one(t),
+        entries,
+    };
+    Search {
+        free: side,
+        falling: side,
+    }
+}
+
+// The lowest node to which a hop leads: up into the free set, or down into the falling one. 64 where there is none.
+fn lead(up: u64, down: u64, free: u64, falling: u64) -> usize
+    ensures { λ r. ⌜ r ≡ least maxNodes (λ u. has up u & has free u or has down u & has falling u) ⌝ }
+{
+    nodes::lowest(nodes::union(nodes::common(up, free), nodes::common(down, falling)))
+}
+
+// Node v joins with the entry u, if it has not joined yet and u is a node.
+fn admit(side: Side, v: usize, u: usize) -> Side
+    requires { ⌜ v < maxNodes ⌝ }
+    ensures { λ r. ⌜ r ≡ admitted v u side ⌝ }
+{
+    if MAX_NODES <= u {
+        return side;
+    }
+    if nodes::has(side.members, v) {
+        return side;
+    }
+    let mut entries = side.entries;
+    entries[v] = u as u8;
+    Side {
+        members: nodes::with(side.members, v),
+        entries,
+    }
+}
+
+// One class of a round. All its tests go by the sets free and falling.
+fn half(up: &[u64], down: &[u64], free: u64, falling: u64, side: Side) -> Side
+    ensures { λ r. ⌜ r ≡ halfOf (now (up .entry)) (now (down .entry)) free falling side ⌝ }
+{
+    let mut next = side;
+    for v in 0..MAX_NODES {
+        let u = lead(network::row(up, v), network::row(down, v), free, falling);
+        let more = admit(next, v, u);
+        next = more;
+    }
+    next
+}
+
+// One round. What falls already can't rise: it has no free set to rise into.
+fn round(up: &[u64], down: &[u64], s: Search) -> Search
+    ensures { λ r. ⌜ r ≡ roundOf (now (up .entry)) (now (down .entry)) s ⌝ }
+{
+    let a = s.free;
+    let b = s.falling;
+    let free = half(up, down, a.members, b.members, a);
+    let falling = half(up, down, 0, b.members, b);
+    Search { free, falling }
+}
+
+// Has no node joined between the two?
+fn still(s: Search, next: Search) -> bool
+    ensures { λ r. ⌜ r ≡ same (s .free .members) (next .free .members) & same (s .falling .members) (next .falling .members) ⌝ }
+{
+    let a = s.free;
+    let b = next.free;
+    if a.members != b.members {
+        return false;
+    }
+    let c = s.falling;
+    let d = next.falling;
+    c.members == d.members
+}
+
+// Rounds until no node joins.
+fn search_for(up: &[u64], down: &[u64], t: usize) -> Search
+    requires { ⌜ t < maxNodes ⌝ }
+    ensures { λ r. ⌜ OfWays (now (up .entry)) (now (down .entry)) (λ edge label. r ≡ searchAt edge label t rounds) ⌝ }
+{
+    let mut s = start(t);
+    for k in 0..ROUNDS {
+        let next = round(up, down, s);
+        if still(s, next) {
+            return s;
+        }
+        s = next;
+    }
+    s
+}
+
+// The entries of all nodes for one destination.
+struct Column {
+    free: [u8; MAX_NODES],
+    falling: [u8; MAX_NODES],
+}
+
+fn column_of(up: &[u64], down: &[u64], t: usize) -> Column
+    requires { ⌜ t < maxNodes ⌝ }
+    ensures { λ r. ⌜ OfWays (now (up .entry)) (now (down .entry)) (λ edge label. r ≡ columnOf edge label t) ⌝ }
+{
+    let s = search_for(up, down, t);
+    let a = s.free;
+    let b = s.falling;
+    let free = a.entries;
+    let falling = b.entries;
+    Column { free, falling }
+}
+
+// The table with m columns in which column d is this one.
+fn placed(table: [u8; TABLE], column: [u8; MAX_NODES], m: usize, d: usize) -> [u8; TABLE]
+    requires { ⌜ (m ≤ maxNodes) × (d < m) ⌝ }
+    ensures { λ r. ⌜ r ≡ placedOf m d column table ⌝ }
+{
+    let mut next = table;
+    for v in 0..m {
+        next[v * m + d] = column[v];
+    }
+    next
+}
+
+// The rows of both classes, one after the other, 0 behind the last.
+pub struct Tables {
+    pub free: [u8; TABLE],
+    pub falling: [u8; TABLE],
+}
+
+// The rows of the first n nodes; of an n above 64 only 64 count.
+pub fn tables_of(t: &[u64], labels: &[u8], n: usize) -> Tables
+    ensures { λ r. ⌜ r ≡ tablesOf (min n maxNodes) (edgeOf (now (t .entry))) (λ u. getD (now (labels .entry)) u 0) ⌝ }
+{
+    let m = if n < MAX_NODES { n } else { MAX_NODES };
+    let ways = ways_of(t, labels);
+    let up = ways.up;
+    let down = ways.down;
+    let mut free = [0u8; TABLE];
+    let mut falling = [0u8; TABLE];
+    for d in 0..m {
+        let c = column_of(&up, &down, d);
+        let a = c.free;
+        let b = c.falling;
+        let more = placed(free, a, m, d);
+        free = more;
+        let further = placed(falling, b, m, d);
+        falling = further;
+    }
+    Tables { free, falling }
+}
+
+// Are there such tables, such a node and such a class? Refusal 10 where not.
+fn known(free: &[u8], falling: &[u8], n: usize, node: usize, class: usize) -> bool
+    ensures { λ r. ⌜ r ≡ rowKnown (now (free .entry)) (now (falling .entry)) n node class ⌝ }
+{
+    if n < 2 {
+        return false;
+    }
+    if MAX_NODES < n {
+        return false;
+    }
+    if free.len() != n * n {
+        return false;
+    }
+    if falling.len() != n * n {
+        return false;
+    }
+    if n <= node {
+        return false;
+    }
+    class <= 1
+}
+
+// The row of a node in a class: that part of the table that holds it. The empty part is refusal 10.
+pub fn row<'a>(free: &'a [u8], falling: &'a [u8], n: usize, node: usize, class: usize) -> &'a [u8]
+    ensures { λ r. ⌜ now r ≡ rowIn (now (free .entry)) (now (falling .entry)) n node class ⌝ }
+{
+    if !known(free, falling, n, node, class) {
+        return &free[..0];
+    }
+    let from = node * n;
+    let to = from + n;
+    if class == 0 {
+        &free[from..to]
+    } else {
+        &falling[from..to]
+    }
+}
+
+// What `hop` answers.
+pub enum HopAnswer {
+    // The byte as stored: the next node, or 255.
+    Next(u8),
+    Refused(Refusal),
+}
+
+// The byte of a row at a destination.
+pub fn hop<'a>(free: &'a [u8], falling: &'a [u8], n: usize, node: usize, class: usize, destination: usize) -> HopAnswer
+    ensures { λ r. ⌜ r ≡ hopIn (now (free .entry)) (now (falling .entry)) n node class destination ⌝ }
+{
+    let part = row(free, falling, n, node, class);
+    if destination < part.len() {
+        HopAnswer::Next(part[destination])
+    } else {
+        HopAnswer::Refused(Refusal::Unknown(0))
+    }
+}
