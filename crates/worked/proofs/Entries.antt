@@ -3,6 +3,7 @@ use mathlib.Core.Path.{_≡_, refl, subst⁻¹}
 use mathlib.Core.Bool.{true}
 use mathlib.Core.List.{List, [], _∷_, List·Memᴰ, List·Memᴰ·cases-cons, List·Memᴰ·not-nil}
 use mathlib.Core.Logic.{⊎-elim}
+use Prim.Native.Nat.{ℕ}
 use borrow.Author.Tests.{eqb-true}
 use Rattle.finite.specs.Truth.{_&_, _or_, non, same, below}
 use Rattle.finite.specs.Sum.{sumTo}
@@ -14,12 +15,18 @@ use Rattle.finite.proofs.Lists.{alike-eq}
 use Rattle.graph.specs.Network.{among, degree}
 use Rattle.graph.specs.Reach.{grow, spread, reach, covers, joined, connected, cut}
 use Rattle.network.specs.Table.{joins, linkedBy, linked, edgeOf}
-use Rattle.lawful.specs.Turn.{prohibited}
+use Rattle.lawful.specs.Turn.{rises, falls, prohibited}
+use Rattle.lawful.specs.Entry.{leads, joining, layer, lowestLead, firstLayer, entry}
 use Rattle.rule.specs.Candidate.{room, candidate, choice}
 use Rattle.rule.specs.Labels.{remains, give, stage, labelled, labelsOf}
 use Rattle.turns.specs.Turns.{turnsThat}
 use Rattle.worked.specs.Networks.{Worked, worked}
-use Rattle.worked.specs.Right.{Right, isRight, allRight}
+use Rattle.worked.specs.Right.{Listed, isListed, Right, isRight, allRight}
+
+listed : (l given : List ℕ) → isListed l given ≡ true → Listed l given
+unfolding isListed
+listed [] given h ne = absurd (ne refl)
+listed (x ∷ l) given h ne = alike-eq _ _ h
 
 right : (e : Worked) → isRight e ≡ true → Right e
 unfolding isRight
@@ -27,12 +34,16 @@ right e h =
     let h₁ = and-r _ _ h in
     let h₂ = and-r _ _ h₁ in
     let h₃ = and-r _ _ h₂ in
+    let h₄ = and-r _ _ h₃ in
+    let h₅ = and-r _ _ h₄ in
     record {
       words = alike-eq _ _ (and-l _ _ h);
       labels = alike-eq _ _ (and-l _ _ h₁);
       turns = eqb-true _ _ (and-l _ _ h₂);
       prohibited = eqb-true _ _ (and-l _ _ h₃);
-      first = eqb-true _ _ (and-r _ _ h₃);
+      first = eqb-true _ _ (and-l _ _ h₄);
+      free = listed _ _ (and-l _ _ h₅);
+      falling = listed _ _ (and-r _ _ h₅);
     }
 
 all-right : (l : List Worked) → allRight l ≡ true → (e : Worked) → List·Memᴰ e l → Right e
@@ -42,7 +53,7 @@ all-right (x ∷ l) h e m =
     ⊎-elim (λ q. subst⁻¹ Right q (right x (and-l _ _ h))) (λ q. all-right l (and-r _ _ h) e q) (List·Memᴰ·cases-cons m)
 
 computed : allRight worked ≡ true
-unfolding _&_ _or_ non same below sumTo any all least leastValue lowestAt leastBy has setOf without upFrom tabulate among degree grow spread reach covers joined connected cut joins linkedBy linked edgeOf prohibited room candidate choice remains give stage labelled labelsOf turnsThat alike isRight allRight
+unfolding _&_ _or_ non same below sumTo any all least leastValue lowestAt leastBy has setOf without upFrom tabulate among degree grow spread reach covers joined connected cut joins linkedBy linked edgeOf rises falls prohibited leads joining layer lowestLead firstLayer entry room candidate choice remains give stage labelled labelsOf turnsThat alike isListed isRight allRight
 computed = refl
 
 pub every-right : (e : Worked) → List·Memᴰ e worked → Right e

@@ -2,7 +2,8 @@
 use mathlib.Core.List.{List, [], _∷_}
 use Prim.Native.Nat.{ℕ}
 
--- a network as pairs and as neighbour words, with what the rules give for it: the labels, T, W, and the node that is labelled first
+-- a network as pairs and as neighbour words, with what the rules give for it: the labels, T, W, the node that is labelled first, and both tables of rows;
+-- tables that are left empty are not part of what is worked by hand
 pub record Worked : Type 0 where
   pub nodes : ℕ
   pub pairs : List ℕ
@@ -11,6 +12,8 @@ pub record Worked : Type 0 where
   pub turns : ℕ
   pub prohibited : ℕ
   pub first : ℕ
+  pub free : List ℕ
+  pub falling : List ℕ
 
 -- "link 0-1: labels 1, 2"
 abbrev pub link : Worked
@@ -22,6 +25,8 @@ link = record {
   turns = 0;
   prohibited = 0;
   first = 0;
+  free = 0 ∷ 1 ∷ 0 ∷ 1 ∷ [];
+  falling = 0 ∷ 255 ∷ 0 ∷ 1 ∷ [];
 }
 
 -- "triangle: labels 1, 2, 3; T = 3, W = 1"
@@ -34,6 +39,8 @@ triangle = record {
   turns = 3;
   prohibited = 1;
   first = 0;
+  free = 0 ∷ 1 ∷ 2 ∷ 0 ∷ 1 ∷ 2 ∷ 0 ∷ 1 ∷ 2 ∷ [];
+  falling = 0 ∷ 255 ∷ 255 ∷ 0 ∷ 1 ∷ 255 ∷ 0 ∷ 1 ∷ 2 ∷ [];
 }
 
 -- "path 0-1-2: labels 1, 2, 3; W = 0"
@@ -46,9 +53,11 @@ path = record {
   turns = 1;
   prohibited = 0;
   first = 0;
+  free = 0 ∷ 1 ∷ 1 ∷ 0 ∷ 1 ∷ 2 ∷ 1 ∷ 1 ∷ 2 ∷ [];
+  falling = 0 ∷ 255 ∷ 255 ∷ 0 ∷ 1 ∷ 255 ∷ 1 ∷ 1 ∷ 2 ∷ [];
 }
 
--- the ring 0-1, 0-3, 1-2, 2-3: "labels 1, 2, 3, 4"
+-- the ring 0-1, 0-3, 1-2, 2-3: "labels 1, 2, 3, 4", "its falling rows: 0 - - -; 0 1 - -; 1 1 2 -; 0 2 2 3 (- is 255)", and the free rows that Show prints
 abbrev pub ring : Worked
 ring = record {
   nodes = 4;
@@ -58,6 +67,8 @@ ring = record {
   turns = 4;
   prohibited = 1;
   first = 0;
+  free = 0 ∷ 1 ∷ 1 ∷ 3 ∷ 0 ∷ 1 ∷ 2 ∷ 2 ∷ 1 ∷ 1 ∷ 2 ∷ 3 ∷ 0 ∷ 2 ∷ 2 ∷ 3 ∷ [];
+  falling = 0 ∷ 255 ∷ 255 ∷ 255 ∷ 0 ∷ 1 ∷ 255 ∷ 255 ∷ 1 ∷ 1 ∷ 2 ∷ 255 ∷ 0 ∷ 2 ∷ 2 ∷ 3 ∷ [];
 }
 
 -- "hub 0 with leaves 1, 2, 3: labels 3, 1, 2, 4"
@@ -70,6 +81,8 @@ hub = record {
   turns = 3;
   prohibited = 0;
   first = 1;
+  free = 0 ∷ 1 ∷ 2 ∷ 3 ∷ 0 ∷ 1 ∷ 0 ∷ 0 ∷ 0 ∷ 0 ∷ 2 ∷ 0 ∷ 0 ∷ 0 ∷ 0 ∷ 3 ∷ [];
+  falling = 0 ∷ 1 ∷ 2 ∷ 255 ∷ 255 ∷ 1 ∷ 255 ∷ 255 ∷ 255 ∷ 255 ∷ 2 ∷ 255 ∷ 0 ∷ 0 ∷ 0 ∷ 3 ∷ [];
 }
 
 -- "four nodes, all linked: T = 12, W = 4"
@@ -82,6 +95,8 @@ all-four = record {
   turns = 12;
   prohibited = 4;
   first = 0;
+  free = 0 ∷ 1 ∷ 2 ∷ 3 ∷ 0 ∷ 1 ∷ 2 ∷ 3 ∷ 0 ∷ 1 ∷ 2 ∷ 3 ∷ 0 ∷ 1 ∷ 2 ∷ 3 ∷ [];
+  falling = 0 ∷ 255 ∷ 255 ∷ 255 ∷ 0 ∷ 1 ∷ 255 ∷ 255 ∷ 0 ∷ 1 ∷ 2 ∷ 255 ∷ 0 ∷ 1 ∷ 2 ∷ 3 ∷ [];
 }
 
 -- nodes 0 and 1 each linked to 2, 3, 4, 5, and four blocks of five: "Node 7 is labelled first"
@@ -94,6 +109,8 @@ blocks = record {
   turns = 160;
   prohibited = 44;
   first = 7;
+  free = [];
+  falling = [];
 }
 
 abbrev pub worked : List Worked
