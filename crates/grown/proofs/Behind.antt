@@ -47,7 +47,7 @@ holds-more {g} {r} {s} {k} x j h e b l =
       size = ap (λ (y : Grown). length (y .bytes)) q ∙ length-sets (g .bytes) (g .len) x ∙ h .size;
       len-is = ap (λ (y : Grown). y .len) q ∙ ap (λ (y : ℕ). y + length x) m ∙ sym a;
       bound = omega arith;
-      content-is = ap content q ∙ behind (g .bytes) (g .len) x (rw (h .size) fits) ∙ ap (λ (y : List ℕ). y ++ x) (h .content-is)
+      content-is = ap content q ∙ behind (g .bytes) (g .len) x (rw (h .size) fits) ∙ ap (λ (y : List ℕ). y ++ x) (h .content-is);
     }
 
 -- a bound may be loosened, and what is held may be said in another way

@@ -22,6 +22,6 @@ emptyOf = record { bytes = replicate roomSize 0; len = 0 }
 unfoldable pub appended : Grown → List ℕ → Grown
 appended g s =
     elim (leb (g .len + length s) roomSize) [
-      true ↦ record { bytes = sets (g .bytes) (g .len) s; len = g .len + length s }
-    | false ↦ g
+      | true ↦ record { bytes = sets (g .bytes) (g .len) s; len = g .len + length s }
+      | false ↦ g
     ]

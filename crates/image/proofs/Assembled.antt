@@ -37,16 +37,16 @@ regroup h a b c d m p l f g = simp (append-assoc, append-nil)
 
 full-image : (n s k : ℕ) (pairs labels free falling : List ℕ) → s ≡ 2 + length pairs → length labels ≡ n → length free ≡ k → length falling ≡ k
     → ((((((((((1 ∷ 4 ∷ []) ++ entryBytes 1 26 s) ++ entryBytes 2 (26 + s) n) ++ entryBytes 3 (26 + s + n) k) ++ entryBytes 4 (26 + s + n + k) k)
-      ++ (n ∷ 0 ∷ [])) ++ pairs) ++ labels) ++ free) ++ falling) ≡ imageFrom ((n ∷ 0 ∷ pairs) ∷ labels ∷ free ∷ falling ∷ [])
+    ++ (n ∷ 0 ∷ [])) ++ pairs) ++ labels) ++ free) ++ falling) ≡ imageFrom ((n ∷ 0 ∷ pairs) ∷ labels ∷ free ∷ falling ∷ [])
 unfolding imageFrom entriesOf joinedUp
 full-image n s k pairs labels free falling q a b c =
     let e : s ≡ suc (suc (length pairs)) = omega arith in
     regroup (1 ∷ 4 ∷ []) (entryBytes 1 26 s) (entryBytes 2 (26 + s) n) (entryBytes 3 (26 + s + n) k) (entryBytes 4 (26 + s + n + k) k) (n ∷ 0 ∷ []) pairs labels free falling
     ∙ ap₂ (λ (x y : ℕ). (1 ∷ 4 ∷ []) ++ ((entryBytes 1 26 x ++ (entryBytes 2 (26 + x) y ++ (entryBytes 3 (26 + x + y) k ++ (entryBytes 4 (26 + x + y + k) k ++ []))))
-      ++ (((n ∷ 0 ∷ []) ++ pairs) ++ (labels ++ (free ++ (falling ++ [])))))) e (sym a)
+    ++ (((n ∷ 0 ∷ []) ++ pairs) ++ (labels ++ (free ++ (falling ++ [])))))) e (sym a)
     ∙ ap₂ (λ (x y : ℕ). (1 ∷ 4 ∷ []) ++ ((entryBytes 1 26 (suc (suc (length pairs))) ++ (entryBytes 2 (26 + suc (suc (length pairs))) (length labels)
-      ++ (entryBytes 3 (26 + suc (suc (length pairs)) + length labels) x ++ (entryBytes 4 (26 + suc (suc (length pairs)) + length labels + x) y ++ []))))
-      ++ (((n ∷ 0 ∷ []) ++ pairs) ++ (labels ++ (free ++ (falling ++ [])))))) (sym b) (sym c)
+    ++ (entryBytes 3 (26 + suc (suc (length pairs)) + length labels) x ++ (entryBytes 4 (26 + suc (suc (length pairs)) + length labels + x) y ++ []))))
+    ++ (((n ∷ 0 ∷ []) ++ pairs) ++ (labels ++ (free ++ (falling ++ [])))))) (sym b) (sym c)
 
 pub full-is : (n : ℕ) (pairs : List ℕ) → n ≤ maxNodes
     → ((fullFront n pairs ++ labelsBody n pairs) ++ rowsBody n pairs true) ++ rowsBody n pairs false ≡ imageOf true n pairs

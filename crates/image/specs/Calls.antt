@@ -26,8 +26,8 @@ use Rattle.image.specs.declared.Outcome.the-variants.{Read, NotRead}
 unfoldable pub cablingFault : List ℕ → Verdict
 cablingFault b =
     elim (leb 2 (nodesIn b) & leb (nodesIn b) maxNodes) [
-      false ↦ Fault Count
-    | true ↦ elim (same (zeroIn b) 0) [ false ↦ Fault Shape | true ↦ faultOf (nodesIn b) (pairsIn b) ]
+      | false ↦ Fault Count
+      | true ↦ elim (same (zeroIn b) 0) [ false ↦ Fault Shape | true ↦ faultOf (nodesIn b) (pairsIn b) ]
     ]
 
 -- 8: "kind 2, 3 or 4 differs, in length or bytes, from what the rules give", where contents and kind 1 are in order

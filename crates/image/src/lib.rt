@@ -189,7 +189,10 @@ pub fn build(image: &[u8], buffer: &mut [u8]) -> Written
     if let Verdict::Fault(r) = checked {
         return Written::NotWritten(r);
     }
-    placed(full_bytes(format::nodes_in(image), format::pairs_in(image)), buffer)
+    placed(
+        full_bytes(format::nodes_in(image), format::pairs_in(image)),
+        buffer,
+    )
 }
 
 // Answers the numbers of nodes and links and which image it is, and writes the pairs, under the checks 1 to 9.

@@ -22,8 +22,8 @@ pub filled-more : {n : ℕ} {f : ℕ → ℕ} {l : List ℕ} {v x : ℕ} → Fil
 filled-more {l = l} {v} {x} s b e = record {
   size = length-set l v x ∙ s .size;
   done = λ k h.
-    bcase (same k v) (λ q. rw (same-eq k v q) (getD-set-same l v x 0 (rw (s .size) b) ∙ e))
-    (λ q. let d = same-ne k v q in getD-set-other l v k x 0 d ∙ s .done k (omega arith));
+      bcase (same k v) (λ q. rw (same-eq k v q) (getD-set-same l v x 0 (rw (s .size) b) ∙ e))
+      (λ q. let d = same-ne k v q in getD-set-other l v k x 0 d ∙ s .done k (omega arith));
 }
 
 pub filled-all : {n : ℕ} {f : ℕ → ℕ} {l : List ℕ} {v : ℕ} → Filled n f l v → n ≤ v → l ≡ tabulate n f

@@ -115,13 +115,13 @@ pub halving-more : {lead : ℕ → ℕ} {s next : Side} {v u : ℕ} → Halving 
 halving-more {lead} {s} {next} {v} {u} h low e = record {
   sound = admit-sound v u next (h .sound) low;
   members = λ k l b.
-    bcase (same k v)
-    (λ q. rw (same-eq k v q) (here-members v u next (h .sound) low ∙ ap₂ (λ (x : Bool) (y : ℕ). x or below y maxNodes) (h .same-members v (omega arith) low) e))
-    (λ q. let d = same-ne k v q in other-members v u next (h .sound) low k b d ∙ h .members k (omega arith) b);
+      bcase (same k v)
+      (λ q. rw (same-eq k v q) (here-members v u next (h .sound) low ∙ ap₂ (λ (x : Bool) (y : ℕ). x or below y maxNodes) (h .same-members v (omega arith) low) e))
+      (λ q. let d = same-ne k v q in other-members v u next (h .sound) low k b d ∙ h .members k (omega arith) b);
   entries = λ k l.
-    bcase (same k v)
-    (λ q. rw (same-eq k v q) (here-entry v u next (h .sound) low ∙ rw (h .same-members v (omega arith) low, h .same-entries v (omega arith), e)))
-    (λ q. let d = same-ne k v q in other-entry v u next (h .sound) low k d ∙ h .entries k (omega arith));
+      bcase (same k v)
+      (λ q. rw (same-eq k v q) (here-entry v u next (h .sound) low ∙ rw (h .same-members v (omega arith) low, h .same-entries v (omega arith), e)))
+      (λ q. let d = same-ne k v q in other-entry v u next (h .sound) low k d ∙ h .entries k (omega arith));
   same-members = λ k l b. other-members v u next (h .sound) low k b (λ q. omega arith) ∙ h .same-members k (omega arith) b;
   same-entries = λ k l. other-entry v u next (h .sound) low k (λ q. omega arith) ∙ h .same-entries k (omega arith);
 }

@@ -142,8 +142,11 @@ module _ (free falling : List ℕ) (n node class : ℕ) where
     pub hop-unknown : length part ≤ destination → Refused (Unknown 0) ≡ hopIn free falling n node class destination
     unfolding hopIn
     hop-unknown l =
-        rw (refute (rowKnown free falling n node class & below destination n)
-        (λ t.
-        let k = ap length e ∙ row-length (and-l _ _ t) in
-        let b = below-lt _ _ (and-r _ _ t) in
-        omega arith), hopIn)
+        rw (
+          refute (rowKnown free falling n node class & below destination n)
+              (λ t.
+              let k = ap length e ∙ row-length (and-l _ _ t) in
+              let b = below-lt _ _ (and-r _ _ t) in
+              omega arith),
+          hopIn,
+        )

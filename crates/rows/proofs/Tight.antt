@@ -44,13 +44,13 @@ module _ (free falling : List ℕ) (n node class : ℕ) where
   pub row-refused-iff : (rowIn free falling n node class ≡ []) ↔ RowFault free falling n node class
   row-refused-iff = (
     λ e.
-    bcase (rowKnown free falling n node class)
-    (λ t.
-    let l = row-length free falling n node class t in
-    let z = ap length e in
-    let k = known-faultless free falling n node class t in
-    absurd (omega arith))
-    (unknown-fault free falling n node class),
+        bcase (rowKnown free falling n node class)
+        (λ t.
+        let l = row-length free falling n node class t in
+        let z = ap length e in
+        let k = known-faultless free falling n node class t in
+        absurd (omega arith))
+        (unknown-fault free falling n node class),
     λ f. row-refused free falling n node class (fault-unknown free falling n node class f),
   )
 

@@ -253,7 +253,14 @@ pub enum HopAnswer {
 }
 
 // The byte of a row at a destination.
-pub fn hop<'a>(free: &'a [u8], falling: &'a [u8], n: usize, node: usize, class: usize, destination: usize) -> HopAnswer
+pub fn hop<'a>(
+    free: &'a [u8],
+    falling: &'a [u8],
+    n: usize,
+    node: usize,
+    class: usize,
+    destination: usize,
+) -> HopAnswer
     ensures { λ r. ⌜ r ≡ hopIn (now (free .entry)) (now (falling .entry)) n node class destination ⌝ }
 {
     let part = row(free, falling, n, node, class);

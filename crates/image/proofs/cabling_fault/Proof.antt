@@ -20,7 +20,7 @@ zero-in-requires : tie.Need-zero-in-requires
 zero-in-requires c κs = search needs
 
 returns-3 : tie.Need-returns-3
-returns-3 c = 
+returns-3 c =
     let two = c .before .before in
     let e = two .before .before .nodes-in .ensures in
     let l = two .before .if1 .left in
@@ -34,7 +34,7 @@ fault-requires : tie.Need-fault-requires
 fault-requires c κs = search needs
 
 returns-4 : tie.Need-returns-4
-returns-4 c = 
+returns-4 c =
     let three = c .before .before in
     let two = three .before .before in
     let n = two .before .before .nodes-in .ensures in

@@ -41,7 +41,7 @@ append-requires-3 : tie.Need-append-requires-3
 append-requires-3 c κs = search needs
 
 returns : tie.Need-returns
-returns c = 
+returns c =
     let two = c .before in
     let ent = two .before .before in
     let one = ent .before in

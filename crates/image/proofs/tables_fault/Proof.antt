@@ -20,7 +20,7 @@ pairs-in-requires : tie.Need-pairs-in-requires
 pairs-in-requires c κs = search needs
 
 full-bytes-requires : tie.Need-full-bytes-requires
-full-bytes-requires c κs = 
+full-bytes-requires c κs =
     let s = c .before .before .before in
     let g = cabling-good _ (s .pre) .0 in
     (rw (c .before .nodes-in .ensures) (g .few), rw (c .pairs-in .ensures) (g .short))

@@ -45,7 +45,7 @@ loop-again c =
     let l = c .before in
     let r = l .before in (
       rw (c .admit .ensures) (halving-more (r .before .before .before .loop .inv .0) (omega arith)
-      (l .lead .ensures ∙ rw (r .before .row .ensures, r .row2 .ensures))),
+          (l .lead .ensures ∙ rw (r .before .row .ensures, r .row2 .ensures))),
       omega arith,
     )
 

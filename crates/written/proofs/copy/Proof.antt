@@ -39,8 +39,8 @@ loop-again c =
     let i : ℕ = l .loop .i in
     let h : i < length (a .bytes .now) = omega arith in (
       ap (λ (b : List ℕ). set b i (getD (a .bytes .now) i 0)) (l .loop .inv .0)
-      ∙ ap (λ (k : ℕ). set (sets (a .buffer .now) 0 (take i (a .bytes .now))) k (getD (a .bytes .now) i 0)) (sym (zero-add i))
-      ∙ sets-more (a .buffer .now) 0 (a .bytes .now) i h,
+          ∙ ap (λ (k : ℕ). set (sets (a .buffer .now) 0 (take i (a .bytes .now))) k (getD (a .bytes .now) i 0)) (sym (zero-add i))
+          ∙ sets-more (a .buffer .now) 0 (a .bytes .now) i h,
       refl,
       omega arith,
       length-set (l .loop .buffer) i _ ∙ l .loop .inv .3,
