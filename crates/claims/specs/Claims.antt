@@ -2,9 +2,9 @@
 use mathlib.Core.Path.{_≡_}
 use mathlib.Core.Bool.{Bool, true, false}
 use mathlib.Core.List.{List}
-use Prim.Native.Nat.{ℕ, _+_, _≤_, _<_}
+use Prim.Native.Nat.{ℕ, suc, _+_, _≤_, _<_}
 use lib.ListN.{length, getD}
-use Rattle.finite.specs.Truth.{_&_, non, same}
+use Rattle.finite.specs.Truth.{_&_, _or_, non, same}
 use Rattle.finite.specs.Sum.{sumTo, when}
 use Rattle.finite.specs.Search.{any}
 
@@ -21,11 +21,28 @@ among itinerary j r = any j (λ i. same (getD itinerary i 0) r)
 unfoldable pub holds : (ℕ → List ℕ) → Progress → ℕ → ℕ → Bool
 holds itinerary s m r = non (s .done m) & among (itinerary m) (s .taken m) r
 
+-- the resource that claimant m wants next
+abbrev pub wanted : (ℕ → List ℕ) → Progress → ℕ → ℕ
+wanted itinerary s m = getD (itinerary m) (s .taken m) 0
+
 -- the steps that can be made: take the next resource when nobody holds it, or be done when there is none to take
 pub data CanStep (k : ℕ) (itinerary : ℕ → List ℕ) (s : Progress) (m : ℕ) : Type 0 where
   take : s .done m ≡ false → s .taken m < length (itinerary m)
-      → ((c : ℕ) → c < k → holds itinerary s c (getD (itinerary m) (s .taken m) 0) ≡ false) → CanStep k itinerary s m
+      → ((c : ℕ) → c < k → holds itinerary s c (wanted itinerary s m) ≡ false) → CanStep k itinerary s m
   finish : s .done m ≡ false → s .taken m ≡ length (itinerary m) → CanStep k itinerary s m
+
+-- some claimant can make a step
+pub record SomeCanStep (k : ℕ) (itinerary : ℕ → List ℕ) (s : Progress) : Type 0 where
+  pub at : ℕ
+  pub low : at < k
+  pub can : CanStep k itinerary s at
+
+-- what a step leaves: one claimant has taken one resource more, or is done
+unfoldable pub taking : Progress → ℕ → Progress
+taking s m = record { taken = λ c. s .taken c + when (same m c) 1; done = s .done }
+
+unfoldable pub finishing : Progress → ℕ → Progress
+finishing s m = record { taken = s .taken; done = λ c. same m c or s .done c }
 
 -- ranks rise strictly along each itinerary
 abbrev pub Rising : ℕ → (ℕ → List ℕ) → (ℕ → ℕ) → Type 0
@@ -36,6 +53,11 @@ Rising k itinerary rank =
 pub record Lawful (k : ℕ) (itinerary : ℕ → List ℕ) (s : Progress) : Type 0 where
   pub within : (m : ℕ) → m < k → s .taken m ≤ length (itinerary m)
   pub finished : (m : ℕ) → m < k → s .done m ≡ true → s .taken m ≡ length (itinerary m)
+
+-- no resource has two holders
+abbrev pub Exclusive : ℕ → (ℕ → List ℕ) → Progress → Type 0
+Exclusive k itinerary s =
+    (a b r : ℕ) → a < k → b < k → holds itinerary s a r ≡ true → holds itinerary s b r ≡ true → a ≡ b
 
 -- the steps made, and the steps there are
 unfoldable pub made : ℕ → Progress → ℕ

@@ -1,1 +1,14 @@
-
+pub mod Arrays
+pub mod Moves
+pub mod Fresh
+pub mod Channels
+pub mod Way
+pub mod Changes
+pub mod State
+pub mod Hops
+pub mod Total
+pub mod After
+pub mod Reached
+pub mod Drain
+pub mod Answers
+pub mod Tight

@@ -1,1 +1,4 @@
 pub mod Step
+pub mod Fresh
+pub mod Runs
+pub mod Tells

@@ -1,11 +1,12 @@
 -- 01, "The drain machine": what one move answers and what it leaves. Reads past an array give 0 and stores there change nothing, so this says something
 -- of every record.
 use mathlib.Core.Bool.{Bool, true, false}
-use mathlib.Core.List.{List, map}
+use mathlib.Core.List.{List}
 use Prim.Native.Nat.{ℕ, suc, _+_, _*_, _-_, min}
-use lib.Dec.{eqb}
 use lib.ListN.{getD, set}
 use Rattle.finite.specs.Truth.{_&_, _or_, non, same, below}
+use Rattle.finite.specs.Lists.{tabulate}
+use Rattle.nodes.specs.Limits.{maxNodes}
 use Rattle.refusal.specs.declared.Refusal.the-variants.{Unknown}
 use Rattle.machine.specs.declared.Record.{Record}
 use Rattle.machine.specs.declared.Answer.{Answer}
@@ -25,13 +26,17 @@ isFalling r m = non (same (getD (r .classes) m 0) 0)
 unfoldable pub isDelivered : Record → ℕ → Bool
 isDelivered r m = non (same (getD (r .delivered) m 0) 0)
 
--- the node after its head: the entry of its class's table
+-- where its entry stands in a table: row `head`, column `target`. More than 64 nodes count as 64.
+abbrev pub place : Record → ℕ → ℕ
+place r m = head r m * min (r .nodes) maxNodes + target r m
+
+-- the table of its class
+unfoldable pub tableOf : Record → ℕ → List ℕ
+tableOf r m = elim (isFalling r m) [ true ↦ r .falling | false ↦ r .free ]
+
+-- the node after its head: its entry there
 unfoldable pub nextNode : Record → ℕ → ℕ
-nextNode r m =
-    elim (isFalling r m) [
-      true ↦ getD (r .falling) (head r m * r .nodes + target r m) 0
-    | false ↦ getD (r .free) (head r m * r .nodes + target r m) 0
-    ]
+nextNode r m = getD (tableOf r m) (place r m) 0
 
 -- "Each link makes two channels, one a direction."
 abbrev pub channel : ℕ → ℕ → ℕ
@@ -53,9 +58,9 @@ classAfter r m =
 abbrev pub counted : ℕ → ℕ
 counted moves = min (moves + 1) 18446744073709551615
 
--- a channel that m holds is given back
+-- a channel's holder once `holder` has given back what it holds
 unfoldable pub released : ℕ → ℕ → ℕ
-released m h = elim (eqb h (suc m)) [ true ↦ 0 | false ↦ h ]
+released holder h = elim (same h holder) [ true ↦ 0 | false ↦ h ]
 
 -- "it takes that one channel"
 unfoldable pub moved : Record → ℕ → Record
@@ -70,7 +75,7 @@ moved r m = record {
   heads = set (r .heads) m (nextNode r m);
   classes = set (r .classes) m (classAfter r m);
   delivered = r .delivered;
-  holders = set (r .holders) (nextChannel r m) (suc m)
+  holders = set (r .holders) (nextChannel r m) (suc m);
 }
 
 -- "it is delivered and gives back all its channels"
@@ -86,25 +91,25 @@ arrived r m = record {
   heads = r .heads;
   classes = r .classes;
   delivered = set (r .delivered) m 1;
-  holders = map (released m) (r .holders)
+  holders = tabulate 4096 (λ c. released (suc m) (holder r c));
 }
 
 -- one move of message m
 unfoldable pub stepOf : Record → ℕ → Stepped
 stepOf r m =
     elim (below m (r .messages) & below m 256) [
-      false ↦ record { «record» = r; answer = Refused (Unknown 0) }
-    | true ↦
-      elim (isDelivered r m) [
-        true ↦ record { «record» = r; answer = Already }
-      | false ↦
-        elim (same (head r m) (target r m)) [
-          true ↦ record { «record» = arrived r m; answer = Delivered }
-        | false ↦
-          elim (same (holder r (nextChannel r m)) 0) [
-            true ↦ record { «record» = moved r m; answer = Moved }
-          | false ↦ record { «record» = r; answer = Blocked (holder r (nextChannel r m) - 1) }
+      | false ↦ record { «record» = r; answer = Refused (Unknown 0) }
+      | true ↦
+          elim (isDelivered r m) [
+            | true ↦ record { «record» = r; answer = Already }
+            | false ↦
+                elim (same (head r m) (target r m)) [
+                  | true ↦ record { «record» = arrived r m; answer = Delivered }
+                  | false ↦
+                      elim (same (holder r (nextChannel r m)) 0) [
+                        | true ↦ record { «record» = moved r m; answer = Moved }
+                        | false ↦ record { «record» = r; answer = Blocked (holder r (nextChannel r m) - 1) }
+                      ]
+                ]
           ]
-        ]
-      ]
     ]

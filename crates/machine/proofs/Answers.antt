@@ -1,0 +1,93 @@
+-- What each answer tells: "it takes that one channel", blocked "by that message's number", "it is delivered and gives back all its channels", "no other
+-- answer changes the record".
+use mathlib.Core.Path.{_≡_, refl, sym, _∙_, ap}
+use mathlib.Core.Bool.{Bool, true, false}
+use mathlib.Core.List.{List}
+use Prim.Native.Nat.{ℕ, suc, _-_, _<_}
+use native.Mathlib.Omega.{arith}
+use Rattle.finite.proofs.Truth.{no-tf}
+use Rattle.claims.specs.Claims.{Progress, holds, wanted}
+use Rattle.claims.proofs.Holding.{holds-held}
+use Rattle.claims.proofs.Waiting.{not-own}
+use Rattle.machine.specs.declared.Record.{Record}
+use Rattle.machine.specs.declared.Answer.the-variants.{Moved, Blocked}
+use Rattle.machine.specs.declared.Stepped.{Stepped}
+use Rattle.machine.specs.Step.{head, target, isDelivered, nextChannel, holder, moved, arrived, stepOf}
+use Rattle.machine.specs.Runs.{labelIn, Fabric, Listed, messagesIn, itineraryIn, Reached}
+use Rattle.machine.specs.Tells.{BlockedBy, Took, Arrived, Tells}
+use Rattle.machine.proofs.Moves.{Case, unknown, already, arrives, waits, moves, step-case}
+use Rattle.machine.proofs.Channels.{channelRank}
+use Rattle.machine.proofs.Changes.{released-here, released-other, moved-holder, moved-holders, arrived-holders}
+use Rattle.machine.proofs.State.{State}
+use Rattle.machine.proofs.Hops.{all-taken, more-to-take, next-wanted, next-inside}
+use Rattle.machine.proofs.Total.{channels-rising}
+use Rattle.machine.proofs.After.{moved-state, arrived-state}
+use Rattle.machine.proofs.Reached.{known, unknown-high, not-done, holder-low, holder-holds, reached-state}
+
+module _ {n : ℕ} {edge : ℕ → ℕ → Bool} {labels free falling list : List ℕ} (fabric : Fabric n edge labels free falling) (listed : Listed n list) where
+  abbrev k : ℕ
+  k = messagesIn list
+
+  abbrev itinerary : ℕ → List ℕ
+  itinerary = itineraryIn edge labels list
+
+  module _ {r : Record} {s : Progress} (state : State n edge labels free falling list r s) (m : ℕ) (low : m < k) (u : isDelivered r m ≡ false) where
+    -- a message that waits, waits for another one
+    waits-for : (head r m ≡ target r m → ⊥) → (b : ℕ) → b < k → holder r (nextChannel r m) ≡ suc b → BlockedBy k r m b
+    waits-for d b l e =
+        let h = holder-holds fabric listed state m low d b l e in
+        let own = not-own k itinerary (channelRank n (labelIn labels)) s (state .says .lawful) (channels-rising fabric listed) m low (more-to-take fabric listed state m low d) in
+        record {
+          low = l;
+          other = λ q. no-tf h (ap (λ (x : ℕ). holds itinerary s x (wanted itinerary s m)) q ∙ own);
+          undelivered = state .says .done b l ∙ holds-held itinerary s b _ h .not-done;
+          holds-it = e;
+        }
+
+    takes-one : (head r m ≡ target r m → ⊥) → holder r (nextChannel r m) ≡ 0 → Took k edge labels list r m (moved r m)
+    takes-one d z = record {
+      progress = s;
+      before = state .says;
+      more = more-to-take fabric listed state m low d;
+      one = rw (sym (next-wanted fabric listed state m low d)) (record {
+        free = z;
+        taken = moved-holder r m (let a = next-inside fabric listed state m low d in let b = state .kept .holders-size in omega arith);
+        others = moved-holders r m;
+      });
+      then = moved-state fabric listed state m low (not-done fabric listed state m low u) d z .says;
+    }
+
+    gives-back : head r m ≡ target r m → Arrived k edge labels list r m (arrived r m)
+    gives-back e =
+        let last = all-taken fabric listed state m low e in
+        let h = arrived-holders r m (state .kept .holders-size) in
+        record {
+          progress = s;
+          before = state .says;
+          all = last;
+          back = record {
+            own = λ c q. h c ∙ released-here (holder r c) (suc m) q;
+            others = λ c q. h c ∙ released-other (holder r c) (suc m) q;
+          };
+          then = arrived-state fabric listed state m low (not-done fabric listed state m low u) last .says;
+        }
+
+  case-tells : {r : Record} {s : Progress} → State n edge labels free falling list r s → (m : ℕ) {x : Stepped} → Case r m x
+      → Tells k edge labels list r m (x .«record») (x .answer)
+  case-tells state m (unknown t) = (unknown-high fabric listed state m t, refl, refl)
+  case-tells state m (already l u) = (known fabric listed state m l, u, refl)
+  case-tells state m (arrives l u e) = let low = known fabric listed state m l in (low, u, gives-back state m low u e)
+  case-tells {r} state m (waits l u d h) =
+      let low = known fabric listed state m l in
+      (low, u, waits-for state m low u d (holder r (nextChannel r m) - 1) (holder-low fabric listed state m h) (omega arith), refl)
+  case-tells state m (moves l u d z) = let low = known fabric listed state m l in (low, u, takes-one state m low u d z)
+
+  module _ {r : Record} (run : Reached n labels free falling list r) (m : ℕ) where
+    pub each-answer : Tells k edge labels list r m (stepOf r m .«record») (stepOf r m .answer)
+    each-answer = case-tells (reached-state fabric listed run .1) m (step-case r m)
+
+    pub one-channel : stepOf r m .answer ≡ Moved → Took k edge labels list r m (stepOf r m .«record»)
+    one-channel e = (rw e at each-answer) .2
+
+    pub blocked-by : (b : ℕ) → stepOf r m .answer ≡ Blocked b → BlockedBy k r m b
+    blocked-by b e = (rw e at each-answer) .2

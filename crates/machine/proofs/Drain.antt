@@ -1,0 +1,143 @@
+-- Demand 3: "in whichever order moves are tried, while any is undelivered some message can move; successful moves never exceed the sum of (shortest lawful
+-- hops + 1), reach it exactly when all are delivered, and then every link is free."
+use mathlib.Core.Path.{_≡_, refl, sym, _∙_, ap}
+use mathlib.Core.Bool.{Bool, true, false}
+use mathlib.Core.List.{List}
+use mathlib.Core.Logic.{_↔_, ⊎-elim}
+use Prim.Native.Nat.{ℕ, zero, suc, _+_, _-_, _≤_, _<_}
+use native.Mathlib.Numerals.{add-one}
+use native.Mathlib.Omega.{arith}
+use Rattle.finite.specs.Truth.{non, same, below}
+use Rattle.finite.specs.Sum.{when}
+use Rattle.finite.specs.Search.{Some}
+use Rattle.finite.proofs.Truth.{no-tf, bcase, non-false, same-eq, same-ne, eq-same, below-lt, below-le}
+use Rattle.finite.proofs.Sum.{when-true, when-false}
+use Rattle.finite.proofs.Search.{find}
+use Rattle.claims.specs.Claims.{Progress, CanStep, take, finish}
+use Rattle.claims.proofs.Waiting.{some-can-step}
+use Rattle.claims.proofs.Counting.{made-le, made-whole, all-free}
+use Rattle.machine.specs.declared.Record.{Record}
+use Rattle.machine.specs.declared.Stepped.{Stepped}
+use Rattle.machine.specs.Step.{isDelivered, holder, counted, moved, arrived, stepOf}
+use Rattle.machine.specs.Fresh.{begunOf}
+use Rattle.machine.specs.Runs.{labelIn, Fabric, Listed, messagesIn, itineraryIn, allMoves, Reached, fresh, move, successful, successes}
+use Rattle.machine.specs.Tells.{Says}
+use Rattle.machine.proofs.Moves.{Case, unknown, already, arrives, waits, moves, step-case, unchanged}
+use Rattle.machine.proofs.Channels.{channelRank}
+use Rattle.machine.proofs.State.{State}
+use Rattle.machine.proofs.Hops.{more-to-take}
+use Rattle.machine.proofs.Total.{all-moves-small, all-moves-whole, channels-rising}
+use Rattle.machine.proofs.Reached.{unknown-high, holder-low, holder-holds, reached-state}
+
+module _ {n : ℕ} {edge : ℕ → ℕ → Bool} {labels free falling list : List ℕ} (fabric : Fabric n edge labels free falling) (listed : Listed n list) where
+  abbrev k : ℕ
+  k = messagesIn list
+
+  abbrev itinerary : ℕ → List ℕ
+  itinerary = itineraryIn edge labels list
+
+  -- what the claims allow, the machine does
+  can-succeed : {r : Record} {s : Progress} (state : State n edge labels free falling list r s) (m : ℕ) → m < k → {x : Stepped} → Case r m x
+      → CanStep k itinerary s m → successful (x .answer) ≡ true
+  can-succeed state m low (unknown t) c = let h = unknown-high fabric listed state m t in absurd (omega arith)
+  can-succeed state m low (already l u) (take f b h) = no-tf (sym (state .says .done m low) ∙ u) f
+  can-succeed state m low (already l u) (finish f e) = no-tf (sym (state .says .done m low) ∙ u) f
+  can-succeed state m low (arrives l u e) c = refl
+  can-succeed state m low (waits l u d h) (take f b none) =
+      let i = holder-low fabric listed state m h in no-tf (holder-holds fabric listed state m low d _ i (omega arith)) (none _ i)
+  can-succeed state m low (waits l u d h) (finish f e) = let b = more-to-take fabric listed state m low d in absurd (omega arith)
+  can-succeed state m low (moves l u d h) c = refl
+
+  module _ {r : Record} (run : Reached n labels free falling list r) where
+    abbrev so-far : Progress
+    so-far = reached-state fabric listed run .0
+
+    state : State n edge labels free falling list r so-far
+    state = reached-state fabric listed run .1
+
+    -- "one message to a directed link, links held until delivery": what each message holds, read off the record, is what it holds by the claims
+    pub holding : (s : Progress) × Says k edge labels list r s
+    holding = (so-far, state .says)
+
+    -- "while any is undelivered some message can move"
+    pub progress : Some k (λ m. non (isDelivered r m)) → Some k (λ m. successful (stepOf r m .answer))
+    progress x =
+        let undone : Some k (λ m. non (so-far .done m)) = record { at = x .at; low = x .low; fact = ap non (sym (state .says .done (x .at) (x .low))) ∙ x .fact } in
+        let c = some-can-step k itinerary (channelRank n (labelIn labels)) so-far (state .says .lawful) (channels-rising fabric listed) undone in
+        record { at = c .at; low = c .low; fact = can-succeed state (c .at) (c .low) (step-case r (c .at)) (c .can) }
+
+    -- "successful moves never exceed the sum of (shortest lawful hops + 1)"
+    pub never-more : r .moves ≤ allMoves edge labels list
+    never-more =
+        let e = state .says .count in
+        let b = made-le k itinerary so-far (state .says .lawful) in
+        let w = all-moves-whole fabric listed in
+        omega arith
+
+    -- "reach it exactly when all are delivered"
+    pub all-delivered : (r .moves ≡ allMoves edge labels list) ↔ ((m : ℕ) → m < k → isDelivered r m ≡ true)
+    all-delivered =
+        let w = made-whole k itinerary so-far (state .says .lawful) in
+        let c = state .says .count in
+        let a = all-moves-whole fabric listed in (
+          λ e m l. state .says .done m l ∙ w .0 (sym c ∙ e ∙ a) m l,
+          λ h. c ∙ w .1 (λ m l. sym (state .says .done m l) ∙ h m l) ∙ sym a,
+        )
+
+    -- "and then every link is free"
+    pub every-link-free : ((m : ℕ) → m < k → isDelivered r m ≡ true) → (c : ℕ) → holder r c ≡ 0
+    every-link-free h c =
+        bcase (same (holder r c) 0) (same-eq _ _)
+        (λ t.
+        let z = same-ne _ _ t in
+        let o = state .says .owners c in
+        let b : ℕ = holder r c - 1 in
+        let l : b < k = omega arith in
+        no-tf (eq-same {a = holder r c} {b = suc b} (omega arith))
+        (state .says .held c b l ∙ all-free k itinerary so-far (λ m i. sym (state .says .done m i) ∙ h m i) b l c))
+
+    -- as long as the sum is not reached some move succeeds
+    pub drains : r .moves < allMoves edge labels list → Some k (λ m. successful (stepOf r m .answer))
+    drains l =
+        ⊎-elim progress (λ none. let e = all-delivered .1 (λ m b. non-false _ (none m b)) in absurd (omega arith))
+        (find k (λ m. non (isDelivered r m)))
+
+    counts : counted (r .moves) ≡ suc (r .moves)
+    counts = let b = never-more in let l = all-moves-small fabric listed in omega arith
+
+    case-counts : {m : ℕ} {x : Stepped} → Case r m x → successful (x .answer) ≡ true → x .«record» .moves ≡ suc (r .moves)
+    unfolding moved arrived
+    case-counts (unknown t) h = no-tf h refl
+    case-counts (already l u) h = no-tf h refl
+    case-counts (arrives l u e) h = counts
+    case-counts (waits l u d b) h = no-tf h refl
+    case-counts (moves l u d z) h = counts
+
+    -- "Moved and delivered count one successful move each"
+    pub counts-one : (m : ℕ) → successful (stepOf r m .answer) ≡ true → stepOf r m .«record» .moves ≡ suc (r .moves)
+    counts-one m = case-counts (step-case r m)
+
+  -- the count is that of the successful moves, and no invention
+  pub moves-are-successes : {r : Record} (run : Reached n labels free falling list r) → r .moves ≡ successes run
+  unfolding begunOf
+  moves-are-successes fresh = refl
+  moves-are-successes (move {r = r} m run) =
+      let i = moves-are-successes run in
+      bcase (successful (stepOf r m .answer)) (λ t. let w = when-true 1 t in let c = counts-one run m t in omega arith)
+      (λ t. let w = when-false 1 t in let c = ap (λ (x : Record). x .moves) (unchanged r m t) in omega arith)
+
+  -- from every record of a run moves lead to one where all are delivered, and their count is the sum
+  pub can-drain : {r : Record} → Reached n labels free falling list r
+      → (end : Record) × Reached n labels free falling list end × ((m : ℕ) → m < k → isDelivered end m ≡ true) × (end .moves ≡ allMoves edge labels list)
+  can-drain run = go (allMoves edge labels list) run (omega arith)
+    where
+      go : (left : ℕ) {r : Record} → Reached n labels free falling list r → allMoves edge labels list ≤ r .moves + left
+          → (end : Record) × Reached n labels free falling list end × ((m : ℕ) → m < k → isDelivered end m ≡ true) × (end .moves ≡ allMoves edge labels list)
+      go zero {r} run b = let n = never-more run in let e : r .moves ≡ allMoves edge labels list = omega arith in (r, run, all-delivered run .0 e, e)
+      go (suc left) {r} run b =
+          bcase (below (r .moves) (allMoves edge labels list))
+          (λ t.
+          let s = drains run (below-lt _ _ t) in
+          let c = counts-one run (s .at) (s .fact) in
+          go left (move (s .at) run) (omega arith))
+          (λ t. let n = never-more run in let h = below-le _ _ t in let e : r .moves ≡ allMoves edge labels list = omega arith in (r, run, all-delivered run .0 e, e))

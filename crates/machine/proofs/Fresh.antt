@@ -1,0 +1,30 @@
+-- The record that a fresh start fills, from its parts.
+use mathlib.Core.Path.{_≡_, _∙_, ap}
+use mathlib.Core.List.{List}
+use Prim.Native.Nat.{ℕ, _+_, _*_, _/_, min}
+use native.Mathlib.Nat.{add-zero}
+use lib.ListN.{length, getD}
+use Rattle.finite.specs.Lists.{tabulate}
+use Rattle.finite.proofs.Lists.{tabulate-cong}
+use Rattle.machine.specs.declared.Record.{Record}
+use Rattle.machine.specs.Fresh.{sourceIn, zeros, begunOf}
+
+pub begun-parts : (n : ℕ) (labels free falling list : List ℕ) {messages : ℕ} {targets heads classes delivered holders : List ℕ}
+    → messages ≡ min (length list / 2) 256 → targets ≡ tabulate 256 (λ m. getD list (2 * m + 1) 0)
+    → heads ≡ tabulate 256 (λ m. getD list (2 * m + 0) 0) → classes ≡ zeros 256 → delivered ≡ zeros 256 → holders ≡ zeros 4096
+    → record {
+      nodes = n;
+      messages = messages;
+      moves = 0;
+      labels = labels;
+      free = free;
+      falling = falling;
+      targets = targets;
+      heads = heads;
+      classes = classes;
+      delivered = delivered;
+      holders = holders;
+    } ≡ begunOf n labels free falling list
+unfolding begunOf
+begun-parts n labels free falling list a b c d e f =
+    let h = c ∙ tabulate-cong 256 _ (sourceIn list) (λ m l. ap (λ (i : ℕ). getD list i 0) (add-zero _)) in cc

@@ -1,0 +1,105 @@
+-- A message's next hop in a state: the entry of its class, along the channel that the claims say it wants.
+use mathlib.Core.Path.{_≡_, refl, sym, _∙_, ap, ap₂}
+use mathlib.Core.Bool.{Bool, true, false}
+use mathlib.Core.List.{List, _∷_}
+use Prim.Native.Nat.{ℕ, suc, _+_, _*_, _-_, _≤_, _<_, min}
+use native.Mathlib.Omega.{arith}
+use lib.ListN.{length, getD}
+use Rattle.finite.specs.Truth.{_&_, non, same, below}
+use Rattle.finite.proofs.Truth.{no-tf, bcase, refute, false-non, true-non, same-eq, same-ne, eq-same, ne-same, below-lt, below-le}
+use Rattle.lawful.specs.Entry.{entry, after}
+use Rattle.lawful.proofs.Run.{Hop, rise, fall, rises-lt, falls-lt}
+use Rattle.nodes.specs.Limits.{maxNodes}
+use Rattle.refusal.specs.declared.Refusal.the-variants.{Unknown}
+use Rattle.claims.specs.Claims.{Progress, holds, wanted}
+use Rattle.machine.specs.declared.Record.{Record}
+use Rattle.machine.specs.declared.Answer.{Answer}
+use Rattle.machine.specs.declared.Answer.the-variants.{Already, Moved, Blocked, Delivered, Refused}
+use Rattle.machine.specs.declared.Stepped.{Stepped}
+use Rattle.machine.specs.Step.{head, target, isFalling, isDelivered, place, tableOf, nextNode, channel, nextChannel, holder, classAfter, moved, arrived, stepOf}
+use Rattle.machine.specs.Fresh.{sourceIn, targetIn}
+use Rattle.machine.specs.Runs.{labelIn, Fabric, Listed, messagesIn, routeIn, channelsOf, itineraryIn}
+use Rattle.machine.proofs.Moves.{with, table-falling, table-free, step-none, step-already, step-delivered, step-blocked, step-moved}
+use Rattle.machine.proofs.Channels.{channels-length, channels-at}
+use Rattle.machine.proofs.Way.{OnWay, Split, way-end, way-hop, way-split, way-next}
+use Rattle.machine.proofs.State.{Kept, OnRoute, State, few-messages, target-low}
+
+module _ {n : ℕ} {edge : ℕ → ℕ → Bool} {labels free falling list : List ℕ} (fabric : Fabric n edge labels free falling) (listed : Listed n list)
+    {r : Record} {s : Progress} (state : State n edge labels free falling list r s) (m : ℕ) (low : m < messagesIn list) where
+  few : m < 256
+  few = let b = few-messages fabric listed in omega arith
+
+  goes : target r m ≡ targetIn list m
+  goes = state .kept .targets m few
+
+  -- its entry stands in row `head` and column `target` of the tables of the start
+  place-is : place r m ≡ head r m * n + targetIn list m
+  place-is =
+      let e : min (r .nodes) maxNodes ≡ n = let k = state .kept .nodes in let b = fabric .many in omega arith in
+      ap₂ (λ (x y : ℕ). head r m * x + y) e goes
+
+  abbrev class : Bool
+  class = non (isFalling r m)
+
+  abbrev entry-here : ℕ
+  entry-here = entry maxNodes edge (labelIn labels) (targetIn list m) class (head r m)
+
+  on-way : OnRoute n edge labels list m (s .taken m) class (head r m)
+  on-way = state .way m low
+
+  -- the next node is the entry of its class
+  pub next-entry : nextNode r m ≡ entry-here
+  unfolding nextNode
+  next-entry =
+      let here = on-way .low in
+      let there = target-low fabric listed m low in
+      bcase (isFalling r m)
+      (λ t.
+      ap₂ (λ (x : List ℕ) (i : ℕ). getD x i 0) (table-falling r m t ∙ state .kept .falling-are) place-is ∙ fabric .falling-rows (head r m) (targetIn list m) here there
+      ∙ ap (λ (c : Bool). entry maxNodes edge (labelIn labels) (targetIn list m) c (head r m)) (sym (false-non t)))
+      (λ t.
+      ap₂ (λ (x : List ℕ) (i : ℕ). getD x i 0) (table-free r m t ∙ state .kept .free-are) place-is ∙ fabric .free-rows (head r m) (targetIn list m) here there
+      ∙ ap (λ (c : Bool). entry maxNodes edge (labelIn labels) (targetIn list m) c (head r m)) (sym (true-non t)))
+
+  -- at its destination it has taken all its channels
+  pub all-taken : head r m ≡ target r m → s .taken m ≡ length (itineraryIn edge labels list m)
+  unfolding itineraryIn
+  all-taken e =
+      way-end n edge (labelIn labels) (fabric .many) (fabric .network .inside) (sourceIn list m) (targetIn list m) (target-low fabric listed m low)
+      (routeIn edge labels list m) (s .taken m) class (head r m) on-way (e ∙ goes)
+      ∙ sym (channels-length (sourceIn list m) (routeIn edge labels list m))
+
+  -- anywhere else there is a channel more to take, and it is the next
+  module _ (d : head r m ≡ target r m → ⊥) where
+    not-there : head r m ≡ targetIn list m → ⊥
+    not-there e = d (e ∙ sym goes)
+
+    abbrev class-then : Bool
+    class-then = after edge (labelIn labels) class (head r m) (nextNode r m)
+
+    pub next-hop : Hop edge (labelIn labels) class (head r m) class-then (nextNode r m)
+    next-hop =
+        rw next-entry
+        (way-hop n edge (labelIn labels) (fabric .many) (fabric .network .inside) (sourceIn list m) (targetIn list m) (target-low fabric listed m low)
+        (routeIn edge labels list m) (s .taken m) class (head r m) on-way not-there)
+
+    pub next-way : OnRoute n edge labels list m (suc (s .taken m)) class-then (nextNode r m)
+    next-way =
+        rw next-entry
+        (way-next n edge (labelIn labels) (fabric .many) (fabric .network .inside) (sourceIn list m) (targetIn list m) (target-low fabric listed m low)
+        (routeIn edge labels list m) (s .taken m) class (head r m) on-way not-there)
+
+    more-route : s .taken m < length (routeIn edge labels list m)
+    more-route = next-way .within
+
+    pub more-to-take : s .taken m < length (itineraryIn edge labels list m)
+    unfolding itineraryIn
+    more-to-take = let e = channels-length (sourceIn list m) (routeIn edge labels list m) in let b = more-route in omega arith
+
+    pub next-wanted : nextChannel r m ≡ wanted (itineraryIn edge labels list) s m
+    unfolding itineraryIn
+    next-wanted =
+        ap₂ channel (on-way .at) (next-way .at) ∙ sym (channels-at (sourceIn list m) (routeIn edge labels list m) (s .taken m) more-route)
+
+    pub next-inside : nextChannel r m < 4096
+    next-inside = let a = on-way .low in let b = next-way .low in let c = fabric .many in omega arith

@@ -1,0 +1,57 @@
+-- `machine::ends` meets its contract: every message passed has its byte of the list.
+use mathlib.Core.Path.{refl}
+use Prim.Native.Nat.{ℕ, _+_, _*_, _-_, _≤_}
+use native.Mathlib.Omega.{arith}
+use lib.ListN.{getD, replicate}
+use Rattle.machine.proofs.Arrays.{Filling, filling-none, filling-more, filling-all}
+use Rattle.machine.proofs.ends.Statement.{statement}
+use Rattle.machine.proofs.ends.Tie as tie
+
+abbrev Inv-loop : tie.InvT-loop
+Inv-loop list first nodes₀ m₀ nodes m = Filling (λ i. getD list (2 * i + first) 0) nodes₀ nodes m × (m ≤ 256)
+
+abbrev μ-loop : tie.MeasureT-loop
+μ-loop list first nodes₀ m₀ nodes m = 256 - m
+
+loop-holds : tie.Need-loop-holds Inv-loop μ-loop
+loop-holds c = (filling-none _ _, omega arith)
+
+mul-byte : tie.Need-mul-byte Inv-loop μ-loop
+mul-byte c = omega arith
+
+add-byte : tie.Need-add-byte Inv-loop μ-loop
+add-byte c = omega arith
+
+byte-requires : tie.Need-byte-requires Inv-loop μ-loop
+byte-requires c κs = tt
+
+array-write-nodes : tie.Need-array-write-nodes Inv-loop μ-loop
+array-write-nodes c = omega arith
+
+add-m : tie.Need-add-m Inv-loop μ-loop
+add-m c = omega arith
+
+loop-less : tie.Need-loop-less Inv-loop μ-loop
+loop-less c = omega arith
+
+loop-again : tie.Need-loop-again Inv-loop μ-loop
+loop-again c = (filling-more _ (c .before .before .loop .inv .0) (omega arith) (c .byte .ensures), omega arith)
+
+returns : tie.Need-returns Inv-loop μ-loop
+returns c = filling-all 256 (c .before .loop .inv .0) refl (c .loop-test .left)
+
+pub ends-spec : {M : Type 1} → statement M
+ends-spec =
+    tie.close
+    (tie.spec
+    Inv-loop
+    μ-loop
+    loop-holds
+    mul-byte
+    add-byte
+    byte-requires
+    array-write-nodes
+    add-m
+    loop-less
+    loop-again
+    returns)

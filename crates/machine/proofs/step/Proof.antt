@@ -1,0 +1,94 @@
+-- `machine::step` meets its contract: each return is a case of the definition.
+use mathlib.Core.Path.{sym, _∙_, ap}
+use Prim.Native.Nat.{ℕ, _-_}
+use Rattle.machine.specs.declared.Record.{Record}
+use Rattle.machine.specs.declared.Answer.the-variants.{Moved, Blocked, Delivered}
+use Rattle.machine.proofs.Moves.{with, step-none, step-many, step-already, step-delivered, step-blocked, step-moved}
+use borrow.Author.Needs.{needs}
+use Rattle.machine.proofs.step.Statement.{statement}
+use Rattle.machine.proofs.step.Tie as tie
+
+returns : tie.Need-returns
+returns c = sym (step-none _ _ (c .if1 .taken))
+
+returns-2 : tie.Need-returns-2
+returns-2 c = sym (step-many _ _ (c .if2 .taken))
+
+is-delivered-requires : tie.Need-is-delivered-requires
+is-delivered-requires c κs = search needs
+
+returns-3 : tie.Need-returns-3
+returns-3 c =
+    let f = c .before .before in
+    sym (step-already _ _ (f .before .if1 .left) (f .if2 .left) (sym (c .before .is-delivered .ensures) ∙ c .if3 .taken))
+
+head-requires : tie.Need-head-requires
+head-requires c κs = search needs
+
+target-requires : tie.Need-target-requires
+target-requires c κs = search needs
+
+arrive-requires : tie.Need-arrive-requires
+arrive-requires c κs = search needs
+
+returns-4 : tie.Need-returns-4
+returns-4 c =
+    let t = c .before .before in
+    let d = t .before .before in
+    let f = d .before .before in
+    ap (λ (r : Record). with r Delivered) (c .arrive .ensures)
+    ∙ sym (step-delivered _ _ (f .before .if1 .left) (f .if2 .left) (sym (d .before .is-delivered .ensures) ∙ d .if3 .left)
+    (sym (t .before .head .ensures) ∙ c .before .if4 .taken ∙ t .target .ensures))
+
+next-holder-requires : tie.Need-next-holder-requires
+next-holder-requires c κs = search needs
+
+cast-holder : tie.Need-cast-holder
+cast-holder c = search needs
+
+sub-by : tie.Need-sub-by
+sub-by c = search needs
+
+returns-5 : tie.Need-returns-5
+returns-5 c =
+    let h = c .before in
+    let e = h .before in
+    let t = e .before in
+    let d = t .before .before in
+    let f = d .before .before in
+    ap (λ (x : ℕ). with (f .before .before .before .args .«record») (Blocked (x - 1))) (h .next-holder .ensures)
+    ∙ sym (step-blocked _ _ (f .before .if1 .left) (f .if2 .left) (sym (d .before .is-delivered .ensures) ∙ d .if3 .left)
+    (λ q. e .if4 .left (t .before .head .ensures ∙ q ∙ sym (t .target .ensures))) (λ q. c .if5 .taken (h .next-holder .ensures ∙ q)))
+
+advance-requires : tie.Need-advance-requires
+advance-requires c κs = search needs
+
+returns-6 : tie.Need-returns-6
+returns-6 c =
+    let h = c .before .before in
+    let e = h .before in
+    let t = e .before in
+    let d = t .before .before in
+    let f = d .before .before in
+    ap (λ (r : Record). with r Moved) (c .advance .ensures)
+    ∙ sym (step-moved _ _ (f .before .if1 .left) (f .if2 .left) (sym (d .before .is-delivered .ensures) ∙ d .if3 .left)
+    (λ q. e .if4 .left (t .before .head .ensures ∙ q ∙ sym (t .target .ensures))) (sym (h .next-holder .ensures) ∙ c .before .if5 .left))
+
+pub step-spec : {M : Type 1} → statement M
+step-spec =
+    tie.close
+    (tie.spec
+    returns
+    returns-2
+    is-delivered-requires
+    returns-3
+    head-requires
+    target-requires
+    arrive-requires
+    returns-4
+    next-holder-requires
+    cast-holder
+    sub-by
+    returns-5
+    advance-requires
+    returns-6)

@@ -1,0 +1,32 @@
+-- The record that a fresh start fills.
+use mathlib.Core.List.{List}
+use Prim.Native.Nat.{ℕ, _+_, _*_, _/_, min}
+use lib.ListN.{length, getD, replicate}
+use Rattle.finite.specs.Lists.{tabulate}
+use Rattle.machine.specs.declared.Record.{Record}
+
+-- byte 2 m of the list is the source of message m, byte 2 m + 1 its destination
+abbrev pub sourceIn : List ℕ → ℕ → ℕ
+sourceIn list m = getD list (2 * m) 0
+
+abbrev pub targetIn : List ℕ → ℕ → ℕ
+targetIn list m = getD list (2 * m + 1) 0
+
+unfoldable pub zeros : ℕ → List ℕ
+zeros n = replicate n 0
+
+-- every message stands free at its source, nothing is delivered, no channel is held, and no move is made
+unfoldable pub begunOf : ℕ → List ℕ → List ℕ → List ℕ → List ℕ → Record
+begunOf n labels free falling list = record {
+  nodes = n;
+  messages = min (length list / 2) 256;
+  moves = 0;
+  labels = labels;
+  free = free;
+  falling = falling;
+  targets = tabulate 256 (targetIn list);
+  heads = tabulate 256 (sourceIn list);
+  classes = zeros 256;
+  delivered = zeros 256;
+  holders = zeros 4096;
+}

@@ -1,0 +1,67 @@
+-- How a record says how far each message is and what it holds, and what each answer to a move tells.
+use mathlib.Core.Path.{_≡_}
+use mathlib.Core.Bool.{Bool, true, false}
+use mathlib.Core.List.{List, _∷_}
+use Prim.Native.Nat.{ℕ, suc, _≤_, _<_}
+use lib.ListN.{length, getD}
+use Rattle.finite.specs.Truth.{same}
+use Rattle.refusal.specs.declared.Refusal.the-variants.{Unknown}
+use Rattle.claims.specs.Claims.{Progress, holds, wanted, taking, finishing, Lawful, made}
+use Rattle.machine.specs.declared.Record.{Record}
+use Rattle.machine.specs.declared.Answer.{Answer}
+use Rattle.machine.specs.declared.Answer.the-variants.{Already, Moved, Blocked, Delivered, Refused}
+use Rattle.machine.specs.Step.{head, isDelivered, nextChannel, holder}
+use Rattle.machine.specs.Fresh.{sourceIn}
+use Rattle.machine.specs.Runs.{routeIn, itineraryIn}
+
+-- the record says that message m is `taken m` hops along its route and whether it is delivered, and holds just the channels of those hops until it is;
+-- a channel's holder is 0 or one of the k messages plus 1; and the moves are those made
+pub record Says (k : ℕ) (edge : ℕ → ℕ → Bool) (labels list : List ℕ) (r : Record) (s : Progress) : Type 0 where
+  pub lawful : Lawful k (itineraryIn edge labels list) s
+  pub at : (m : ℕ) → m < k → head r m ≡ getD (sourceIn list m ∷ routeIn edge labels list m) (s .taken m) 0
+  pub done : (m : ℕ) → m < k → isDelivered r m ≡ s .done m
+  pub held : (c m : ℕ) → m < k → same (holder r c) (suc m) ≡ holds (itineraryIn edge labels list) s m c
+  pub owners : (c : ℕ) → holder r c ≤ k
+  pub count : r .moves ≡ made k s
+
+-- a move takes the channel c for message m: just that one changes its holder, and nobody held it
+pub record TakesOne (r after : Record) (m c : ℕ) : Type 0 where
+  pub free : holder r c ≡ 0
+  pub taken : holder after c ≡ suc m
+  pub others : (d : ℕ) → (c ≡ d → ⊥) → holder after d ≡ holder r d
+
+-- a move gives back what message m holds: those channels are free, the others as they were
+pub record GivesBack (r after : Record) (m : ℕ) : Type 0 where
+  pub own : (c : ℕ) → holder r c ≡ suc m → holder after c ≡ 0
+  pub others : (c : ℕ) → (holder r c ≡ suc m → ⊥) → holder after c ≡ holder r c
+
+-- another message b, one of the k and not delivered, holds the channel that m wants next
+pub record BlockedBy (k : ℕ) (r : Record) (m b : ℕ) : Type 0 where
+  pub low : b < k
+  pub other : b ≡ m → ⊥
+  pub undelivered : isDelivered r b ≡ false
+  pub holds-it : holder r (nextChannel r m) ≡ suc b
+
+-- message m was i hops along its route and took the next channel of it
+pub record Took (k : ℕ) (edge : ℕ → ℕ → Bool) (labels list : List ℕ) (r : Record) (m : ℕ) (after : Record) : Type 0 where
+  pub progress : Progress
+  pub before : Says k edge labels list r progress
+  pub more : progress .taken m < length (itineraryIn edge labels list m)
+  pub one : TakesOne r after m (wanted (itineraryIn edge labels list) progress m)
+  pub then : Says k edge labels list after (taking progress m)
+
+-- message m had taken all the channels of its route and gave them back
+pub record Arrived (k : ℕ) (edge : ℕ → ℕ → Bool) (labels list : List ℕ) (r : Record) (m : ℕ) (after : Record) : Type 0 where
+  pub progress : Progress
+  pub before : Says k edge labels list r progress
+  pub all : progress .taken m ≡ length (itineraryIn edge labels list m)
+  pub back : GivesBack r after m
+  pub then : Says k edge labels list after (finishing progress m)
+
+-- what each answer to a move of message m tells of the record and of the one after it
+abbrev pub Tells : ℕ → (ℕ → ℕ → Bool) → List ℕ → List ℕ → Record → ℕ → Record → Answer → Type 0
+Tells k edge labels list r m after Already = (m < k) × (isDelivered r m ≡ true) × (after ≡ r)
+Tells k edge labels list r m after Moved = (m < k) × (isDelivered r m ≡ false) × Took k edge labels list r m after
+Tells k edge labels list r m after (Blocked b) = (m < k) × (isDelivered r m ≡ false) × BlockedBy k r m b × (after ≡ r)
+Tells k edge labels list r m after Delivered = (m < k) × (isDelivered r m ≡ false) × Arrived k edge labels list r m after
+Tells k edge labels list r m after (Refused f) = (k ≤ m) × (f ≡ Unknown 0) × (after ≡ r)
