@@ -1,10 +1,10 @@
 -- Counting: never more steps than there are, and all of them exactly when everybody is done; then nobody holds anything.
 use mathlib.Core.Path.{_≡_, sym, _∙_, ap, ap₂}
-use mathlib.Core.Bool.{Bool, true, false}
+use mathlib.Core.Bool.{true, false}
 use mathlib.Core.List.{List}
 use mathlib.Core.Logic.{_↔_}
 use Prim.Native.Nat.{ℕ, zero, suc, _+_, _≤_, _<_}
-use native.Mathlib.Nat.{le-refl, le-step, lt-suc-self, not-suc-le-zero, add-le-add, le-of-eq}
+use native.Mathlib.Nat.{le-step, lt-suc-self, not-suc-le-zero, add-le-add, le-of-eq}
 use native.Mathlib.Omega.{arith}
 use lib.ListN.{length}
 use Rattle.finite.specs.Truth.{same}

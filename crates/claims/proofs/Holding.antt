@@ -1,10 +1,10 @@
 -- What it means to hold a resource, and that one taken before ranks lower than the one wanted next.
 use mathlib.Core.Path.{_≡_}
-use mathlib.Core.Bool.{Bool, true, false}
+use mathlib.Core.Bool.{true, false}
 use mathlib.Core.List.{List}
 use Prim.Native.Nat.{ℕ, _<_}
-use lib.ListN.{length, getD}
-use Rattle.finite.specs.Truth.{_&_, non, same}
+use lib.ListN.{getD}
+use Rattle.finite.specs.Truth.{same}
 use Rattle.finite.proofs.Truth.{no-tf, refute, both, and-l, and-r, non-true, true-non, same-eq, eq-same}
 use Rattle.finite.proofs.Search.{any-some, some-any}
 use Rattle.claims.specs.Claims.{Progress, among, holds}

@@ -57,10 +57,10 @@ full-is n pairs h =
 -- the tables that the code makes are the bodies
 module _ (n : ℕ) (pairs t l : List ℕ) (r : Tables) (h : n ≤ maxNodes) (et : t ≡ tableOf pairs) (el : l ≡ labelsOf maxNodes (edgeOf t) (min n maxNodes))
     (er : r ≡ tablesOf (min n maxNodes) (edgeOf t) (labelIn l)) where
-  labels-are : l ≡ labelsOf maxNodes (links pairs) n
+  pub labels-are : l ≡ labelsOf maxNodes (links pairs) n
   labels-are = el ∙ ap₂ (λ (x : List ℕ) (m : ℕ). labelsOf maxNodes (edgeOf x) m) et (min-eq-left h)
 
-  tables-are : r ≡ tablesOf n (links pairs) (labelOf n pairs)
+  pub tables-are : r ≡ tablesOf n (links pairs) (labelOf n pairs)
   tables-are =
       er ∙ ap₂ (λ (x : List ℕ) (m : ℕ). tablesOf m (edgeOf x) (labelIn l)) et (min-eq-left h)
       ∙ ap (λ (x : List ℕ). tablesOf n (links pairs) (labelIn x)) labels-are

@@ -1,3 +1,5 @@
 pub mod Faults
 pub mod Assembled
 pub mod Reading
+pub mod Tight
+pub mod Images

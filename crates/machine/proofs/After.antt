@@ -1,24 +1,24 @@
 -- A move leads from a state to a state: taking a channel is the claims' taking, a delivery their finishing.
-use mathlib.Core.Path.{_≡_, refl, sym, _∙_, ap, ap₂}
-use mathlib.Core.Bool.{Bool, true, false}
+use mathlib.Core.Path.{_≡_, refl, sym, _∙_, ap}
+use mathlib.Core.Bool.{Bool, false}
 use mathlib.Core.List.{List, _∷_}
-use Prim.Native.Nat.{ℕ, suc, _+_, _≤_, _<_, min}
-use native.Mathlib.Numerals.{add-one}
+use Prim.Native.Nat.{ℕ, suc, _<_}
 use native.Mathlib.Omega.{arith}
 use lib.ListN.{length, getD, length-set}
 use Rattle.finite.specs.Truth.{_or_, non, same}
-use Rattle.finite.proofs.Truth.{no-tf, bcase, false-non, true-non, non-true, or-l, or-false, same-eq, same-ne, eq-same, ne-same, same-refl}
+use Rattle.finite.proofs.Truth.{bcase, false-non, true-non, non-true, or-l, or-false, same-eq, same-ne, eq-same, ne-same, same-refl}
 use Rattle.finite.proofs.Lists.{tabulate-length}
 use Rattle.lawful.specs.Entry.{after}
 use Rattle.lawful.proofs.Run.{Hop, rise, fall, rises-lt, falls-lt}
-use Rattle.claims.specs.Claims.{Progress, holds, wanted, taking, finishing, made}
+use Rattle.claims.specs.Claims.{Progress, holds, taking, finishing, made}
 use Rattle.claims.proofs.Counting.{made-le}
 use Rattle.claims.proofs.Taking.{taken-here, taken-there, taking-done, taking-made, taking-other, taking-holds, taking-lawful}
 use Rattle.claims.proofs.Finishing.{done-here, done-there, finishing-made, finishing-other, finishing-free, finishing-lawful}
+use Rattle.machine.specs.Sizes.{maxMessages, maxPairs}
 use Rattle.machine.specs.declared.Record.{Record}
 use Rattle.machine.specs.Step.{head, target, isFalling, isDelivered, nextNode, nextChannel, holder, classAfter, counted, released, moved, arrived}
 use Rattle.machine.specs.Fresh.{sourceIn}
-use Rattle.machine.specs.Runs.{labelIn, Fabric, Listed, messagesIn, routeIn, itineraryIn, allMoves}
+use Rattle.machine.specs.Runs.{labelIn, Fabric, Listed, messagesIn, routeIn, itineraryIn}
 use Rattle.machine.specs.Tells.{Says}
 use Rattle.machine.proofs.Moves.{class-fall, class-free}
 use Rattle.machine.proofs.Changes.{released-here, released-other, moved-head, moved-heads, moved-class, moved-classes, moved-holder, moved-holders, arrived-mark, arrived-marks, arrived-holders}
@@ -56,7 +56,7 @@ module _ {n : ℕ} {labels free falling list : List ℕ} {r : Record} (m : ℕ) 
     heads-size = kept .heads-size;
     classes-size = kept .classes-size;
     delivered-size = length-set (r .delivered) m _ ∙ kept .delivered-size;
-    holders-size = tabulate-length 4096 _;
+    holders-size = tabulate-length maxPairs _;
   }
 
 -- the class that the machine writes is the class after the hop
@@ -85,7 +85,7 @@ module _ {n : ℕ} {edge : ℕ → ℕ → Bool} {labels free falling list : Lis
   OnIt = OnRoute n edge labels list
 
   -- message m has a place in every array of 256
-  placed : {size : ℕ} → size ≡ 256 → m < size
+  placed : {size : ℕ} → size ≡ maxMessages → m < size
   placed e = let b = few-messages fabric listed in omega arith
 
   -- the count is not full

@@ -1,12 +1,12 @@
 -- What each answer tells: "it takes that one channel", blocked "by that message's number", "it is delivered and gives back all its channels", "no other
 -- answer changes the record".
 use mathlib.Core.Path.{_≡_, refl, sym, _∙_, ap}
-use mathlib.Core.Bool.{Bool, true, false}
+use mathlib.Core.Bool.{Bool, false}
 use mathlib.Core.List.{List}
 use Prim.Native.Nat.{ℕ, suc, _-_, _<_}
 use native.Mathlib.Omega.{arith}
-use Rattle.finite.proofs.Truth.{no-tf}
-use Rattle.claims.specs.Claims.{Progress, holds, wanted}
+use Rattle.finite.proofs.Truth.{no-tf, same-eq}
+use Rattle.claims.specs.Claims.{Progress, holds, wanted, Exclusive}
 use Rattle.claims.proofs.Holding.{holds-held}
 use Rattle.claims.proofs.Waiting.{not-own}
 use Rattle.machine.specs.declared.Record.{Record}
@@ -14,7 +14,7 @@ use Rattle.machine.specs.declared.Answer.the-variants.{Moved, Blocked}
 use Rattle.machine.specs.declared.Stepped.{Stepped}
 use Rattle.machine.specs.Step.{head, target, isDelivered, nextChannel, holder, moved, arrived, stepOf}
 use Rattle.machine.specs.Runs.{labelIn, Fabric, Listed, messagesIn, itineraryIn, Reached}
-use Rattle.machine.specs.Tells.{BlockedBy, Took, Arrived, Tells}
+use Rattle.machine.specs.Tells.{Says, BlockedBy, Took, Arrived, Tells}
 use Rattle.machine.proofs.Moves.{Case, unknown, already, arrives, waits, moves, step-case}
 use Rattle.machine.proofs.Channels.{channelRank}
 use Rattle.machine.proofs.Changes.{released-here, released-other, moved-holder, moved-holders, arrived-holders}
@@ -23,6 +23,14 @@ use Rattle.machine.proofs.Hops.{all-taken, more-to-take, next-wanted, n
 use Rattle.machine.proofs.Total.{channels-rising}
 use Rattle.machine.proofs.After.{moved-state, arrived-state}
 use Rattle.machine.proofs.Reached.{known, unknown-high, not-done, holder-low, holder-holds, reached-state}
+
+-- "one message to a directed link": a channel has one holder in the record
+pub one-message : {k : ℕ} {edge : ℕ → ℕ → Bool} {labels list : List ℕ} {r : Record} {s : Progress} → Says k edge labels list r s
+    → Exclusive k (itineraryIn edge labels list) s
+one-message says a b c i j x y =
+    let p = same-eq _ _ (says .held c a i ∙ x) in
+    let q = same-eq _ _ (says .held c b j ∙ y) in
+    omega arith
 
 module _ {n : ℕ} {edge : ℕ → ℕ → Bool} {labels free falling list : List ℕ} (fabric : Fabric n edge labels free falling) (listed : Listed n list) where
   abbrev k : ℕ

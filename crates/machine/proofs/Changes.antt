@@ -1,15 +1,14 @@
 -- What a move changes in the record: one head, one class and one channel, or one mark and the channels of one message.
-use mathlib.Core.Path.{_≡_, refl, sym, _∙_, ap}
-use mathlib.Core.Bool.{Bool, true, false}
-use mathlib.Core.List.{List}
-use Prim.Native.Nat.{ℕ, suc, _≤_, _<_}
+use mathlib.Core.Path.{_≡_, sym, _∙_, ap}
+use mathlib.Core.Bool.{true}
+use Prim.Native.Nat.{ℕ, suc, _<_}
 use native.Mathlib.Omega.{arith}
-use lib.ListN.{length, getD, set, length-set, List·getD-eq-default}
+use lib.ListN.{length, List·getD-eq-default}
 use lib.Seq.{getD-set-same, getD-set-other}
 use Rattle.finite.specs.Truth.{non, same, below}
-use Rattle.finite.specs.Lists.{tabulate}
-use Rattle.finite.proofs.Truth.{bcase, false-non, true-non, same-eq, same-ne, eq-same, ne-same, below-lt, below-le}
+use Rattle.finite.proofs.Truth.{bcase, true-non, eq-same, ne-same, below-lt, below-le}
 use Rattle.finite.proofs.Lists.{tabulate-at, tabulate-out}
+use Rattle.machine.specs.Sizes.{maxPairs}
 use Rattle.machine.specs.declared.Record.{Record}
 use Rattle.machine.specs.Step.{head, isFalling, isDelivered, nextNode, nextChannel, holder, classAfter, released, moved, arrived}
 
@@ -54,11 +53,11 @@ module _ (r : Record) (m : ℕ) where
   unfolding arrived isDelivered
   arrived-marks c d = ap (λ (x : ℕ). non (same x 0)) (getD-set-other (r .delivered) m c _ 0 (λ e. d (sym e)))
 
-  pub arrived-holders : length (r .holders) ≡ 4096 → (c : ℕ) → holder (arrived r m) c ≡ released (suc m) (holder r c)
+  pub arrived-holders : length (r .holders) ≡ maxPairs → (c : ℕ) → holder (arrived r m) c ≡ released (suc m) (holder r c)
   unfolding arrived
   arrived-holders e c =
-      bcase (below c 4096) (λ t. tabulate-at 4096 _ c 0 (below-lt _ _ t))
+      bcase (below c maxPairs) (λ t. tabulate-at maxPairs _ c 0 (below-lt _ _ t))
       (λ t.
       let l = below-le _ _ t in
       let z : holder r c ≡ 0 = List·getD-eq-default (r .holders) 0 (omega arith) in
-      tabulate-out 4096 _ c 0 l ∙ sym (released-other 0 (suc m) (λ q. omega arith)) ∙ ap (released (suc m)) (sym z))
+      tabulate-out maxPairs _ c 0 l ∙ sym (released-other 0 (suc m) (λ q. omega arith)) ∙ ap (released (suc m)) (sym z))

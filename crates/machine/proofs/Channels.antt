@@ -1,5 +1,5 @@
 -- Channels and their numbers: the ends can be read off, so ranks of hops are ranks of channels, and they rise along a lawful path.
-use mathlib.Core.Path.{_≡_, refl, sym, _∙_, ap, ap₂}
+use mathlib.Core.Path.{_≡_, refl, _∙_, ap, ap₂}
 use mathlib.Core.Bool.{Bool, true}
 use mathlib.Core.List.{List, [], _∷_}
 use Prim.Native.Nat.{ℕ, zero, suc, _+_, _*_, _/_, _%_, _≤_, _<_}
@@ -10,6 +10,7 @@ use Rattle.lawful.specs.Turn.{Distinct}
 use Rattle.lawful.specs.Path.{LawfulTo}
 use Rattle.lawful.proofs.Paths.{path-inside}
 use Rattle.lawful.proofs.Rank.{rank, hopRank, later-rank}
+use Rattle.nodes.specs.Limits.{maxNodes}
 use Rattle.machine.specs.Step.{channel}
 use Rattle.machine.specs.Runs.{channelsOf}
 
@@ -25,13 +26,13 @@ channels-at v (u ∷ l) (suc i) b = channels-at u l i (le-of-suc-le-suc b)
 
 -- the rank of the hop along a channel
 unfoldable pub channelRank : ℕ → (ℕ → ℕ) → ℕ → ℕ
-channelRank n label c = rank n label (c / 64) (c % 64)
+channelRank n label c = rank n label (c / maxNodes) (c % maxNodes)
 
-pub rank-channel : (n : ℕ) (label : ℕ → ℕ) (a b : ℕ) → b < 64 → channelRank n label (channel a b) ≡ rank n label a b
+pub rank-channel : (n : ℕ) (label : ℕ → ℕ) (a b : ℕ) → b < maxNodes → channelRank n label (channel a b) ≡ rank n label a b
 unfolding channelRank
-rank-channel n label a b l = ap₂ (rank n label) (let e : (64 * a + b) / 64 ≡ a = omega arith in e) (let e : (64 * a + b) % 64 ≡ b = omega arith in e)
+rank-channel n label a b l = ap₂ (rank n label) (let e : (maxNodes * a + b) / maxNodes ≡ a = omega arith in e) (let e : (maxNodes * a + b) % maxNodes ≡ b = omega arith in e)
 
-module _ (n : ℕ) (edge : ℕ → ℕ → Bool) (label : ℕ → ℕ) (many : n ≤ 64) (inside : (a b : ℕ) → edge a b ≡ true → b < n) where
+module _ (n : ℕ) (edge : ℕ → ℕ → Bool) (label : ℕ → ℕ) (many : n ≤ maxNodes) (inside : (a b : ℕ) → edge a b ≡ true → b < n) where
   module _ (v t : ℕ) (l : List ℕ) (way : LawfulTo edge label v t l) where
     node-low : (i : ℕ) → i < length l → getD l i 0 < n
     node-low = path-inside edge inside v l (way .path)

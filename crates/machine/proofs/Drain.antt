@@ -1,14 +1,12 @@
 -- Demand 3: "in whichever order moves are tried, while any is undelivered some message can move; successful moves never exceed the sum of (shortest lawful
 -- hops + 1), reach it exactly when all are delivered, and then every link is free."
 use mathlib.Core.Path.{_≡_, refl, sym, _∙_, ap}
-use mathlib.Core.Bool.{Bool, true, false}
+use mathlib.Core.Bool.{Bool, true}
 use mathlib.Core.List.{List}
 use mathlib.Core.Logic.{_↔_, ⊎-elim}
 use Prim.Native.Nat.{ℕ, zero, suc, _+_, _-_, _≤_, _<_}
-use native.Mathlib.Numerals.{add-one}
 use native.Mathlib.Omega.{arith}
 use Rattle.finite.specs.Truth.{non, same, below}
-use Rattle.finite.specs.Sum.{when}
 use Rattle.finite.specs.Search.{Some}
 use Rattle.finite.proofs.Truth.{no-tf, bcase, non-false, same-eq, same-ne, eq-same, below-lt, below-le}
 use Rattle.finite.proofs.Sum.{when-true, when-false}
@@ -117,6 +115,11 @@ module _ {n : ℕ} {edge : ℕ → ℕ → Bool} {labels free falling list : Lis
     pub counts-one : (m : ℕ) → successful (stepOf r m .answer) ≡ true → stepOf r m .«record» .moves ≡ suc (r .moves)
     counts-one m = case-counts (step-case r m)
 
+  -- and leaves one less to make
+  pub one-less : {r : Record} → Reached n labels free falling list r → (m : ℕ) → successful (stepOf r m .answer) ≡ true
+      → suc (allMoves edge labels list - stepOf r m .«record» .moves) ≡ allMoves edge labels list - r .moves
+  one-less run m h = let c = counts-one run m h in let b = never-more (move m run) in omega arith
+
   -- the count is that of the successful moves, and no invention
   pub moves-are-successes : {r : Record} (run : Reached n labels free falling list r) → r .moves ≡ successes run
   unfolding begunOf
@@ -126,18 +129,19 @@ module _ {n : ℕ} {edge : ℕ → ℕ → Bool} {labels free falling list : Lis
       bcase (successful (stepOf r m .answer)) (λ t. let w = when-true 1 t in let c = counts-one run m t in omega arith)
       (λ t. let w = when-false 1 t in let c = ap (λ (x : Record). x .moves) (unchanged r m t) in omega arith)
 
-  -- from every record of a run moves lead to one where all are delivered, and their count is the sum
+  -- from every record of a run moves lead on until the sum is reached: then all are delivered
   pub can-drain : {r : Record} → Reached n labels free falling list r
-      → (end : Record) × Reached n labels free falling list end × ((m : ℕ) → m < k → isDelivered end m ≡ true) × (end .moves ≡ allMoves edge labels list)
+      → (end : Record) × Reached n labels free falling list end × (end .moves ≡ allMoves edge labels list)
   can-drain run = go (allMoves edge labels list) run (omega arith)
     where
       go : (left : ℕ) {r : Record} → Reached n labels free falling list r → allMoves edge labels list ≤ r .moves + left
-          → (end : Record) × Reached n labels free falling list end × ((m : ℕ) → m < k → isDelivered end m ≡ true) × (end .moves ≡ allMoves edge labels list)
-      go zero {r} run b = let n = never-more run in let e : r .moves ≡ allMoves edge labels list = omega arith in (r, run, all-delivered run .0 e, e)
+          → (end : Record) × Reached n labels free falling list end × (end .moves ≡ allMoves edge labels list)
+      go zero {r} run b = let most = never-more run in (r, run, omega arith)
       go (suc left) {r} run b =
+          let most = never-more run in
           bcase (below (r .moves) (allMoves edge labels list))
           (λ t.
           let s = drains run (below-lt _ _ t) in
           let c = counts-one run (s .at) (s .fact) in
           go left (move (s .at) run) (omega arith))
-          (λ t. let n = never-more run in let h = below-le _ _ t in let e : r .moves ≡ allMoves edge labels list = omega arith in (r, run, all-delivered run .0 e, e))
+          (λ t. let h = below-le _ _ t in (r, run, omega arith))

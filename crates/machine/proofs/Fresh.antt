@@ -6,12 +6,12 @@ use native.Mathlib.Nat.{add-zero}
 use lib.ListN.{length, getD}
 use Rattle.finite.specs.Lists.{tabulate}
 use Rattle.finite.proofs.Lists.{tabulate-cong}
-use Rattle.machine.specs.declared.Record.{Record}
+use Rattle.machine.specs.Sizes.{maxMessages, maxPairs}
 use Rattle.machine.specs.Fresh.{sourceIn, zeros, begunOf}
 
 pub begun-parts : (n : ℕ) (labels free falling list : List ℕ) {messages : ℕ} {targets heads classes delivered holders : List ℕ}
-    → messages ≡ min (length list / 2) 256 → targets ≡ tabulate 256 (λ m. getD list (2 * m + 1) 0)
-    → heads ≡ tabulate 256 (λ m. getD list (2 * m + 0) 0) → classes ≡ zeros 256 → delivered ≡ zeros 256 → holders ≡ zeros 4096
+    → messages ≡ min (length list / 2) maxMessages → targets ≡ tabulate maxMessages (λ m. getD list (2 * m + 1) 0)
+    → heads ≡ tabulate maxMessages (λ m. getD list (2 * m + 0) 0) → classes ≡ zeros maxMessages → delivered ≡ zeros maxMessages → holders ≡ zeros maxPairs
     → record {
       nodes = n;
       messages = messages;
@@ -27,4 +27,4 @@ pub begun-parts : (n : ℕ) (labels free falling list : List ℕ) {messages : �
     } ≡ begunOf n labels free falling list
 unfolding begunOf
 begun-parts n labels free falling list a b c d e f =
-    let h = c ∙ tabulate-cong 256 _ (sourceIn list) (λ m l. ap (λ (i : ℕ). getD list i 0) (add-zero _)) in cc
+    let h = c ∙ tabulate-cong maxMessages _ (sourceIn list) (λ m l. ap (λ (i : ℕ). getD list i 0) (add-zero _)) in cc

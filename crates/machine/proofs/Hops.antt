@@ -1,32 +1,29 @@
 -- A message's next hop in a state: the entry of its class, along the channel that the claims say it wants.
-use mathlib.Core.Path.{_≡_, refl, sym, _∙_, ap, ap₂}
-use mathlib.Core.Bool.{Bool, true, false}
-use mathlib.Core.List.{List, _∷_}
-use Prim.Native.Nat.{ℕ, suc, _+_, _*_, _-_, _≤_, _<_, min}
+use mathlib.Core.Path.{_≡_, sym, _∙_, ap, ap₂}
+use mathlib.Core.Bool.{Bool}
+use mathlib.Core.List.{List}
+use Prim.Native.Nat.{ℕ, suc, _+_, _*_, _-_, _<_, min}
 use native.Mathlib.Omega.{arith}
 use lib.ListN.{length, getD}
-use Rattle.finite.specs.Truth.{_&_, non, same, below}
-use Rattle.finite.proofs.Truth.{no-tf, bcase, refute, false-non, true-non, same-eq, same-ne, eq-same, ne-same, below-lt, below-le}
+use Rattle.finite.specs.Truth.{non}
+use Rattle.finite.proofs.Truth.{bcase, false-non, true-non}
 use Rattle.lawful.specs.Entry.{entry, after}
-use Rattle.lawful.proofs.Run.{Hop, rise, fall, rises-lt, falls-lt}
+use Rattle.lawful.proofs.Run.{Hop}
 use Rattle.nodes.specs.Limits.{maxNodes}
-use Rattle.refusal.specs.declared.Refusal.the-variants.{Unknown}
-use Rattle.claims.specs.Claims.{Progress, holds, wanted}
+use Rattle.claims.specs.Claims.{Progress, wanted}
+use Rattle.machine.specs.Sizes.{maxMessages, maxPairs}
 use Rattle.machine.specs.declared.Record.{Record}
-use Rattle.machine.specs.declared.Answer.{Answer}
-use Rattle.machine.specs.declared.Answer.the-variants.{Already, Moved, Blocked, Delivered, Refused}
-use Rattle.machine.specs.declared.Stepped.{Stepped}
-use Rattle.machine.specs.Step.{head, target, isFalling, isDelivered, place, tableOf, nextNode, channel, nextChannel, holder, classAfter, moved, arrived, stepOf}
+use Rattle.machine.specs.Step.{head, target, isFalling, place, nextNode, channel, nextChannel}
 use Rattle.machine.specs.Fresh.{sourceIn, targetIn}
-use Rattle.machine.specs.Runs.{labelIn, Fabric, Listed, messagesIn, routeIn, channelsOf, itineraryIn}
-use Rattle.machine.proofs.Moves.{with, table-falling, table-free, step-none, step-already, step-delivered, step-blocked, step-moved}
+use Rattle.machine.specs.Runs.{labelIn, Fabric, Listed, messagesIn, routeIn, itineraryIn}
+use Rattle.machine.proofs.Moves.{table-falling, table-free}
 use Rattle.machine.proofs.Channels.{channels-length, channels-at}
-use Rattle.machine.proofs.Way.{OnWay, Split, way-end, way-hop, way-split, way-next}
-use Rattle.machine.proofs.State.{Kept, OnRoute, State, few-messages, target-low}
+use Rattle.machine.proofs.Way.{way-end, way-hop, way-next}
+use Rattle.machine.proofs.State.{OnRoute, State, few-messages, target-low}
 
 module _ {n : ℕ} {edge : ℕ → ℕ → Bool} {labels free falling list : List ℕ} (fabric : Fabric n edge labels free falling) (listed : Listed n list)
     {r : Record} {s : Progress} (state : State n edge labels free falling list r s) (m : ℕ) (low : m < messagesIn list) where
-  few : m < 256
+  few : m < maxMessages
   few = let b = few-messages fabric listed in omega arith
 
   goes : target r m ≡ targetIn list m
@@ -101,5 +98,5 @@ module _ {n : ℕ} {edge : ℕ → ℕ → Bool} {labels free falling list : Lis
     next-wanted =
         ap₂ channel (on-way .at) (next-way .at) ∙ sym (channels-at (sourceIn list m) (routeIn edge labels list m) (s .taken m) more-route)
 
-    pub next-inside : nextChannel r m < 4096
+    pub next-inside : nextChannel r m < maxPairs
     next-inside = let a = on-way .low in let b = next-way .low in let c = fabric .many in omega arith

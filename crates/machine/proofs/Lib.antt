@@ -1,4 +1,4 @@
-pub mod Arrays
+pub mod Filling
 pub mod Moves
 pub mod Fresh
 pub mod Channels

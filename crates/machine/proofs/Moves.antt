@@ -1,24 +1,19 @@
 -- What a move answers and leaves, case by case.
-use mathlib.Core.Path.{_≡_, refl, sym, _∙_, ap}
+use mathlib.Core.Path.{_≡_, refl, _∙_, ap}
 use mathlib.Core.Bool.{Bool, true, false}
 use mathlib.Core.List.{List}
-use Prim.Native.Nat.{ℕ, suc, _+_, _*_, _-_, _<_, _≤_}
+use Prim.Native.Nat.{ℕ, _+_, _-_, _<_, _≤_}
 use native.Mathlib.Numerals.{add-one}
 use lib.ListN.{getD, set}
-use Rattle.finite.specs.Truth.{_&_, _or_, non, same, below}
+use Rattle.finite.specs.Truth.{_&_, _or_, same, below}
 use Rattle.finite.specs.Lists.{tabulate}
 use Rattle.finite.proofs.Truth.{no-tf, bcase, refute, both, and-l, and-r, or-l, or-r, or-false, same-eq, same-ne, eq-same, ne-same, below-lt, lt-below, le-below}
-use Rattle.refusal.specs.declared.Refusal.the-variants.{Unknown}
+use Rattle.machine.specs.Sizes.{maxMessages, maxPairs}
 use Rattle.machine.specs.declared.Record.{Record}
-use Rattle.machine.specs.declared.Answer.{Answer}
-use Rattle.machine.specs.declared.Answer.the-variants.{Already, Moved, Blocked, Delivered, Refused}
+use Rattle.machine.specs.declared.Answer.the-variants.{Already, Moved, Blocked, Delivered}
 use Rattle.machine.specs.declared.Stepped.{Stepped}
-use Rattle.machine.specs.Step.{head, target, isFalling, isDelivered, tableOf, nextNode, nextChannel, holder, classAfter, counted, released, moved, arrived, stepOf}
+use Rattle.machine.specs.Step.{head, target, isFalling, isDelivered, tableOf, nextNode, nextChannel, holder, classAfter, counted, released, moved, arrived, with, refusedOf, stepOf}
 use Rattle.machine.specs.Runs.{successful}
-
--- a record with an answer
-abbrev pub with : Record → Answer → Stepped
-with r a = record { «record» = r; answer = a }
 
 module _ (r : Record) (m : ℕ) where
   pub table-falling : isFalling r m ≡ true → tableOf r m ≡ r .falling
@@ -49,17 +44,17 @@ module _ (r : Record) (m : ℕ) where
   pub class-free : isFalling r m ≡ false → getD (r .labels) (head r m) 0 ≤ getD (r .labels) (nextNode r m) 0 → classAfter r m ≡ 0
   class-free h l = class-0 (ap (λ (b : Bool). b or falls-next) h ∙ or-false _ ∙ le-below l)
 
-  pub step-unknown : below m (r .messages) & below m 256 ≡ false → stepOf r m ≡ with r (Refused (Unknown 0))
+  pub step-unknown : below m (r .messages) & below m maxMessages ≡ false → stepOf r m ≡ refusedOf r
   unfolding stepOf
   step-unknown h = rw (h, stepOf)
 
-  pub step-none : r .messages ≤ m → stepOf r m ≡ with r (Refused (Unknown 0))
+  pub step-none : r .messages ≤ m → stepOf r m ≡ refusedOf r
   step-none l = step-unknown (refute _ (λ t. no-tf (and-l _ _ t) (le-below l)))
 
-  pub step-many : 256 ≤ m → stepOf r m ≡ with r (Refused (Unknown 0))
+  pub step-many : maxMessages ≤ m → stepOf r m ≡ refusedOf r
   step-many l = step-unknown (refute _ (λ t. no-tf (and-r _ _ t) (le-below l)))
 
-  module _ (low : m < r .messages) (few : m < 256) where
+  module _ (low : m < r .messages) (few : m < maxMessages) where
     pub step-already : isDelivered r m ≡ true → stepOf r m ≡ with r Already
     unfolding stepOf
     step-already d = rw (both (lt-below low) (lt-below few), stepOf, d)
@@ -81,7 +76,7 @@ module _ (r : Record) (m : ℕ) where
 -- ---- the five cases
 
 pub data Case (r : Record) (m : ℕ) : Stepped → Type 0 where
-  unknown : below m (r .messages) & below m 256 ≡ false → Case r m (with r (Refused (Unknown 0)))
+  unknown : below m (r .messages) & below m maxMessages ≡ false → Case r m (refusedOf r)
   already : m < r .messages → isDelivered r m ≡ true → Case r m (with r Already)
   arrives : m < r .messages → isDelivered r m ≡ false → head r m ≡ target r m → Case r m (with (arrived r m) Delivered)
   waits : m < r .messages → isDelivered r m ≡ false → (head r m ≡ target r m → ⊥) → (holder r (nextChannel r m) ≡ 0 → ⊥)
@@ -90,7 +85,7 @@ pub data Case (r : Record) (m : ℕ) : Stepped → Type 0 where
 
 pub step-case : (r : Record) (m : ℕ) → Case r m (stepOf r m)
 step-case r m =
-    bcase (below m (r .messages) & below m 256)
+    bcase (below m (r .messages) & below m maxMessages)
     (λ t.
     let low = below-lt _ _ (and-l _ _ t) in
     let few = below-lt _ _ (and-r _ _ t) in
@@ -136,7 +131,7 @@ module _ (r : Record) (m : ℕ) {moves : ℕ} {holders : List ℕ} (count : move
   unfolding moved
   moved-parts a b c d e f = let one = add-one m in cc
 
-  pub arrived-parts : {delivered : List ℕ} → delivered ≡ set (r .delivered) m 1 → holders ≡ tabulate 4096 (λ c. released (m + 1) (holder r c))
+  pub arrived-parts : {delivered : List ℕ} → delivered ≡ set (r .delivered) m 1 → holders ≡ tabulate maxPairs (λ c. released (m + 1) (holder r c))
       → record {
         nodes = r .nodes;
         messages = r .messages;
@@ -151,4 +146,4 @@ module _ (r : Record) (m : ℕ) {moves : ℕ} {holders : List ℕ} (count : move
         holders = holders;
       } ≡ arrived r m
   unfolding arrived
-  arrived-parts a b = let e = b ∙ ap (λ (x : ℕ). tabulate 4096 (λ c. released x (holder r c))) (add-one m) in cc
+  arrived-parts a b = let e = b ∙ ap (λ (x : ℕ). tabulate maxPairs (λ c. released x (holder r c))) (add-one m) in cc

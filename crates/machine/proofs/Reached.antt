@@ -7,6 +7,7 @@ use native.Mathlib.Omega.{arith}
 use Rattle.finite.specs.Truth.{_&_, below}
 use Rattle.finite.proofs.Truth.{no-tf, bcase, both, eq-same, below-lt, below-le, lt-below}
 use Rattle.claims.specs.Claims.{Progress, holds, wanted, taking, finishing}
+use Rattle.machine.specs.Sizes.{maxMessages}
 use Rattle.machine.specs.declared.Record.{Record}
 use Rattle.machine.specs.declared.Stepped.{Stepped}
 use Rattle.machine.specs.Step.{head, target, isDelivered, nextChannel, holder}
@@ -21,14 +22,14 @@ module _ {n : ℕ} {edge : ℕ → ℕ → Bool} {labels free falling list : Lis
     pub known : m < r .messages → m < messagesIn list
     known l = let e = state .kept .messages in omega arith
 
-    pub unknown-high : below m (r .messages) & below m 256 ≡ false → messagesIn list ≤ m
+    pub unknown-high : below m (r .messages) & below m maxMessages ≡ false → messagesIn list ≤ m
     unknown-high t =
         bcase (below m (messagesIn list))
         (λ b.
         let l = below-lt _ _ b in
         let e = state .kept .messages in
         let f = few-messages fabric listed in
-        no-tf (both (lt-below {a = m} {b = r .messages} (omega arith)) (lt-below {a = m} {b = 256} (omega arith))) t)
+        no-tf (both (lt-below {a = m} {b = r .messages} (omega arith)) (lt-below {a = m} {b = maxMessages} (omega arith))) t)
         (below-le _ _)
 
     pub not-done : m < messagesIn list → isDelivered r m ≡ false → s .done m ≡ false

@@ -2,20 +2,19 @@
 use mathlib.Core.Path.{_≡_, refl, sym, _∙_, ap}
 use mathlib.Core.Bool.{Bool, true, false}
 use mathlib.Core.List.{List}
-use Prim.Native.Nat.{ℕ, suc, _+_, _*_, _/_, _≤_, _<_, min, zero-le}
+use Prim.Native.Nat.{ℕ, suc, _+_, _*_, _≤_, _<_, zero-le}
 use native.Mathlib.Omega.{arith}
 use lib.ListN.{length, getD, length-replicate}
 use Rattle.finite.specs.Truth.{non, same}
-use Rattle.finite.specs.Sum.{when}
 use Rattle.finite.proofs.Truth.{no-tf, refute, false-non, true-non, ne-same, same-refl}
 use Rattle.finite.proofs.Sum.{sum-zero}
 use Rattle.finite.proofs.Lists.{getD-zeros, tabulate-length, tabulate-at}
 use Rattle.lawful.proofs.Climb.{climbing-run}
-use Rattle.nodes.specs.Limits.{maxNodes}
-use Rattle.claims.specs.Claims.{Progress, holds, made}
+use Rattle.claims.specs.Claims.{Progress, made}
 use Rattle.claims.proofs.Holding.{holds-held}
+use Rattle.machine.specs.Sizes.{maxMessages, maxPairs}
 use Rattle.machine.specs.declared.Record.{Record}
-use Rattle.machine.specs.Step.{head, target, isFalling, isDelivered, holder}
+use Rattle.machine.specs.Step.{head, target, isFalling, isDelivered}
 use Rattle.machine.specs.Fresh.{sourceIn, targetIn, zeros, begunOf}
 use Rattle.machine.specs.Runs.{labelIn, Fabric, Listed, messagesIn, routeIn, itineraryIn}
 use Rattle.machine.specs.Tells.{Says}
@@ -28,11 +27,11 @@ pub record Kept (n : ℕ) (labels free falling list : List ℕ) (r : Record) : T
   pub labels-are : r .labels ≡ labels
   pub free-are : r .free ≡ free
   pub falling-are : r .falling ≡ falling
-  pub targets : (m : ℕ) → m < 256 → target r m ≡ targetIn list m
-  pub heads-size : length (r .heads) ≡ 256
-  pub classes-size : length (r .classes) ≡ 256
-  pub delivered-size : length (r .delivered) ≡ 256
-  pub holders-size : length (r .holders) ≡ 4096
+  pub targets : (m : ℕ) → m < maxMessages → target r m ≡ targetIn list m
+  pub heads-size : length (r .heads) ≡ maxMessages
+  pub classes-size : length (r .classes) ≡ maxMessages
+  pub delivered-size : length (r .delivered) ≡ maxMessages
+  pub holders-size : length (r .holders) ≡ maxPairs
 
 -- message m is on its way along its route
 abbrev pub OnRoute : ℕ → (ℕ → ℕ → Bool) → List ℕ → List ℕ → ℕ → ℕ → Bool → ℕ → Type 0
@@ -60,7 +59,7 @@ unfolding made
 none-made k = sum-zero k _ (λ m l. refl)
 
 module _ {n : ℕ} {edge : ℕ → ℕ → Bool} {labels free falling list : List ℕ} (fabric : Fabric n edge labels free falling) (listed : Listed n list) where
-  pub few-messages : messagesIn list ≤ 256
+  pub few-messages : messagesIn list ≤ maxMessages
   unfolding messagesIn
   few-messages = let l = listed .short in omega arith
 
@@ -83,31 +82,31 @@ module _ {n : ℕ} {edge : ℕ → ℕ → Bool} {labels free falling list : Lis
     labels-are = refl;
     free-are = refl;
     falling-are = refl;
-    targets = λ m l. tabulate-at 256 (targetIn list) m 0 l;
-    heads-size = tabulate-length 256 (sourceIn list);
-    classes-size = zeros-length 256;
-    delivered-size = zeros-length 256;
-    holders-size = zeros-length 4096;
+    targets = λ m l. tabulate-at maxMessages (targetIn list) m 0 l;
+    heads-size = tabulate-length maxMessages (sourceIn list);
+    classes-size = zeros-length maxMessages;
+    delivered-size = zeros-length maxMessages;
+    holders-size = zeros-length maxPairs;
   }
 
   start-head : (m : ℕ) → m < messagesIn list → head start m ≡ sourceIn list m
   unfolding begunOf
-  start-head m l = let b = few-messages in tabulate-at 256 (sourceIn list) m 0 (omega arith)
+  start-head m l = let b = few-messages in tabulate-at maxMessages (sourceIn list) m 0 (omega arith)
 
   start-free : (m : ℕ) → non (isFalling start m) ≡ true
   unfolding begunOf isFalling
-  start-free m = ap (λ (x : ℕ). non (non (same x 0))) (zeros-at 256 m) ∙ true-non (false-non (same-refl 0))
+  start-free m = ap (λ (x : ℕ). non (non (same x 0))) (zeros-at maxMessages m) ∙ true-non (false-non (same-refl 0))
 
   start-says : Says (messagesIn list) edge labels list start none-taken
   unfolding begunOf isDelivered
   start-says = record {
     lawful = record { within = λ m l. zero-le; finished = λ m l d. no-tf d refl };
     at = start-head;
-    done = λ m l. ap (λ (x : ℕ). non (same x 0)) (zeros-at 256 m) ∙ false-non (same-refl 0);
+    done = λ m l. ap (λ (x : ℕ). non (same x 0)) (zeros-at maxMessages m) ∙ false-non (same-refl 0);
     held = λ c m l.
-        ap (λ (x : ℕ). same x (suc m)) (zeros-at 4096 c) ∙ ne-same (λ e. omega arith)
+        ap (λ (x : ℕ). same x (suc m)) (zeros-at maxPairs c) ∙ ne-same (λ e. omega arith)
         ∙ sym (refute _ (λ h. let b = holds-held (itineraryIn edge labels list) none-taken m c h .before in omega arith));
-    owners = λ c. let z = zeros-at 4096 c in omega arith;
+    owners = λ c. let z = zeros-at maxPairs c in omega arith;
     count = sym (none-made (messagesIn list));
   }
 

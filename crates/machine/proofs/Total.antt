@@ -1,8 +1,8 @@
 -- The sum of (hops + 1): it is the whole of the claims, and small; each route is a shortest lawful path.
-use mathlib.Core.Path.{_≡_, refl, sym, _∙_, ap}
+use mathlib.Core.Path.{_≡_, sym, ap}
 use mathlib.Core.Bool.{Bool}
 use mathlib.Core.List.{List}
-use Prim.Native.Nat.{ℕ, zero, suc, _+_, _*_, _≤_, _<_, zero-le}
+use Prim.Native.Nat.{ℕ, zero, suc, _+_, _*_, _≤_, _<_}
 use native.Mathlib.Nat.{le-step, lt-suc-self, mul-suc}
 use native.Mathlib.Omega.{arith}
 use lib.ListN.{length}
@@ -11,11 +11,11 @@ use Rattle.finite.proofs.Sum.{sum-none, sum-more, sum-cong}
 use Rattle.graph.specs.Network.{Network}
 use Rattle.lawful.specs.Path.{LawfulTo, Shortest}
 use Rattle.lawful.proofs.Climb.{climbing-way}
-use Rattle.lawful.proofs.Routes.{IsRoute, route-shortest, route-length}
+use Rattle.lawful.proofs.Routes.{route-shortest, route-length}
 use Rattle.nodes.specs.Limits.{maxNodes}
 use Rattle.claims.specs.Claims.{Rising, whole}
 use Rattle.machine.specs.Fresh.{sourceIn, targetIn}
-use Rattle.machine.specs.Runs.{labelIn, Fabric, Listed, messagesIn, routeIn, channelsOf, itineraryIn, allMoves}
+use Rattle.machine.specs.Runs.{labelIn, Fabric, Listed, messagesIn, routeIn, itineraryIn, allMoves}
 use Rattle.machine.proofs.Channels.{channels-length, channelRank, channels-rise}
 use Rattle.machine.proofs.State.{few-messages, source-low, target-low}
 

@@ -3,6 +3,7 @@ use mathlib.Core.List.{List}
 use Prim.Native.Nat.{ℕ, _+_, _*_, _/_, min}
 use lib.ListN.{length, getD, replicate}
 use Rattle.finite.specs.Lists.{tabulate}
+use Rattle.machine.specs.Sizes.{maxMessages, maxPairs}
 use Rattle.machine.specs.declared.Record.{Record}
 
 -- byte 2 m of the list is the source of message m, byte 2 m + 1 its destination
@@ -19,14 +20,14 @@ zeros n = replicate n 0
 unfoldable pub begunOf : ℕ → List ℕ → List ℕ → List ℕ → List ℕ → Record
 begunOf n labels free falling list = record {
   nodes = n;
-  messages = min (length list / 2) 256;
+  messages = min (length list / 2) maxMessages;
   moves = 0;
   labels = labels;
   free = free;
   falling = falling;
-  targets = tabulate 256 (targetIn list);
-  heads = tabulate 256 (sourceIn list);
-  classes = zeros 256;
-  delivered = zeros 256;
-  holders = zeros 4096;
+  targets = tabulate maxMessages (targetIn list);
+  heads = tabulate maxMessages (sourceIn list);
+  classes = zeros maxMessages;
+  delivered = zeros maxMessages;
+  holders = zeros maxPairs;
 }

@@ -1,3 +1,4 @@
+pub mod Sizes
 pub mod Step
 pub mod Fresh
 pub mod Runs

@@ -8,6 +8,7 @@ use Rattle.finite.specs.Truth.{_&_, _or_, non, same, below}
 use Rattle.finite.specs.Lists.{tabulate}
 use Rattle.nodes.specs.Limits.{maxNodes}
 use Rattle.refusal.specs.declared.Refusal.the-variants.{Unknown}
+use Rattle.machine.specs.Sizes.{maxMessages, maxPairs, maxCount}
 use Rattle.machine.specs.declared.Record.{Record}
 use Rattle.machine.specs.declared.Answer.{Answer}
 use Rattle.machine.specs.declared.Answer.the-variants.{Already, Moved, Blocked, Delivered, Refused}
@@ -40,7 +41,7 @@ nextNode r m = getD (tableOf r m) (place r m) 0
 
 -- "Each link makes two channels, one a direction."
 abbrev pub channel : ℕ → ℕ → ℕ
-channel a b = 64 * a + b
+channel a b = maxNodes * a + b
 
 abbrev pub nextChannel : Record → ℕ → ℕ
 nextChannel r m = channel (head r m) (nextNode r m)
@@ -56,7 +57,7 @@ classAfter r m =
 
 -- "Moved and delivered count one successful move each"; a count that is full stays full
 abbrev pub counted : ℕ → ℕ
-counted moves = min (moves + 1) 18446744073709551615
+counted moves = min (moves + 1) maxCount
 
 -- a channel's holder once `holder` has given back what it holds
 unfoldable pub released : ℕ → ℕ → ℕ
@@ -91,24 +92,32 @@ arrived r m = record {
   heads = r .heads;
   classes = r .classes;
   delivered = set (r .delivered) m 1;
-  holders = tabulate 4096 (λ c. released (suc m) (holder r c));
+  holders = tabulate maxPairs (λ c. released (suc m) (holder r c));
 }
+
+-- a record with an answer
+abbrev pub with : Record → Answer → Stepped
+with r answer = record { «record» = r; answer = answer }
+
+-- 01: refusal 10, "Move: no such message", place 0
+abbrev pub refusedOf : Record → Stepped
+refusedOf r = with r (Refused (Unknown 0))
 
 -- one move of message m
 unfoldable pub stepOf : Record → ℕ → Stepped
 stepOf r m =
-    elim (below m (r .messages) & below m 256) [
-      | false ↦ record { «record» = r; answer = Refused (Unknown 0) }
+    elim (below m (r .messages) & below m maxMessages) [
+      | false ↦ refusedOf r
       | true ↦
           elim (isDelivered r m) [
-            | true ↦ record { «record» = r; answer = Already }
+            | true ↦ with r Already
             | false ↦
                 elim (same (head r m) (target r m)) [
-                  | true ↦ record { «record» = arrived r m; answer = Delivered }
+                  | true ↦ with (arrived r m) Delivered
                   | false ↦
                       elim (same (holder r (nextChannel r m)) 0) [
-                        | true ↦ record { «record» = moved r m; answer = Moved }
-                        | false ↦ record { «record» = r; answer = Blocked (holder r (nextChannel r m) - 1) }
+                        | true ↦ with (moved r m) Moved
+                        | false ↦ with r (Blocked (holder r (nextChannel r m) - 1))
                       ]
                 ]
           ]

@@ -3,17 +3,17 @@ use mathlib.Core.Path.{_≡_, refl, sym, _∙_, ap, ap₂}
 use mathlib.Core.Bool.{Bool, true, false}
 use mathlib.Core.List.{List, [], _∷_, _++_}
 use Prim.Native.Nat.{ℕ, zero, suc, _+_, _-_, _*_, _/_, _%_, _≤_, _<_, zero-le}
-use native.Mathlib.Nat.{le-refl, not-suc-le-zero, mul-add-div-right, mul-add-mod-self-right, mod-eq-of-lt, mod-lt, div-eq-of-lt, div-add-mod', div-lt-iff-lt-mul, le-div-iff-mul-le, mul-le-mul, mul-lt-mul-of-pos-right, add-zero}
+use native.Mathlib.Nat.{le-refl, not-suc-le-zero, mul-add-div-right, mul-add-mod-self-right, mod-eq-of-lt, mod-lt, div-eq-of-lt, div-add-mod', div-lt-iff-lt-mul, mul-le-mul, add-zero}
 use native.Mathlib.Omega.{arith}
-use lib.ListN.{length, getD, set, take, replicate, length-set, length-append, length-replicate, List·getD-eq-default}
+use lib.ListN.{length, getD, set, take, replicate, length-set, length-append, length-replicate}
 use lib.Seq.{take-append-seam, getD-set-same, getD-set-other, ext-getD}
 use Rattle.finite.specs.Truth.{_&_, same, below}
 use Rattle.finite.specs.Lists.{tabulate}
-use Rattle.finite.proofs.Truth.{no-tf, bcase, iff, refute, both, and-l, and-r, and-true, and-false, true-and, false-and, same-eq, same-ne, same-refl, eq-same, ne-same, below-lt, below-le, lt-below, le-below}
+use Rattle.finite.proofs.Truth.{bcase, iff, both, and-l, and-r, and-true, and-false, true-and, false-and, same-eq, same-ne, same-refl, below-lt, below-le, lt-below, le-below}
 use Rattle.finite.proofs.Lists.{getD-zeros, tabulate-length, tabulate-at, tabulate-out, tabulate-ext}
 use Rattle.nodes.specs.Limits.{maxNodes}
-use Rattle.rows.specs.Search.{pick}
-use Rattle.rows.specs.Tables.{tableSize, padded, placedOf}
+use Rattle.rows.specs.Tables.{tableSize, padded}
+use Rattle.rows.specs.Steps.{pick, placedOf}
 
 -- ---- where a cell stands
 
@@ -78,7 +78,7 @@ placing-more {m} {d} {column} {table} {next} {v} {x} h few low l e = record {
       getD-set-other next (v * m + d) i x 0 (same-ne i (v * m + d) q) ∙ h .cells i b
       ∙ bcase (same (i % m) d)
       (λ t. rw (below-next (i / m) v (λ p. same-ne i (v * m + d) q (cell-is m i v d p (same-eq (i % m) d t)))))
-      (λ t. rw (t, and-false, and-false)));
+      (λ t. rw (t, and-false (below (i / m) v), and-false)));
 }
 
 pub placing-all : {m d : ℕ} {column table next : List ℕ} {v : ℕ} → Placing m d column table next v → v ≡ m → next ≡ placedOf m d column table

@@ -10,13 +10,12 @@ use lib.Seq.{getD-set-same, getD-set-other}
 use Rattle.finite.specs.Truth.{_&_, _or_, non, same, below}
 use Rattle.finite.specs.Search.{least}
 use Rattle.finite.specs.Sets.{has, setOf}
-use Rattle.finite.specs.Lists.{tabulate}
-use Rattle.finite.proofs.Truth.{no-tf, bcase, iff, both, and-l, and-r, and-true, and-false, or-l, or-r, or-case, true-non, non-true, same-eq, same-ne, same-refl, eq-same, ne-same}
+use Rattle.finite.proofs.Truth.{no-tf, bcase, iff, both, and-l, and-true, and-false, or-l, or-r, or-case, true-non, same-eq, same-ne, same-refl, eq-same, ne-same}
 use Rattle.finite.proofs.Search.{least-cong}
 use Rattle.finite.proofs.Sets.{has-setOf, setOf-lt, set-ext}
 use Rattle.finite.proofs.Lists.{tabulate-ext}
 use Rattle.nodes.specs.Limits.{maxNodes}
-use Rattle.rows.specs.Search.{pick, admitted, leadOf, halfOf}
+use Rattle.rows.specs.Steps.{pick, admitted, leadOf, halfOf}
 use Rattle.rows.specs.declared.Side.{Side}
 
 pub side-ext : {a b : Side} → a .members ≡ b .members → a .entries ≡ b .entries → a ≡ b

@@ -4,5 +4,5 @@ pub mod Rounds
 pub mod Grid
 pub mod Tabling
 pub mod Lookup
-pub mod Meaning
 pub mod Tight
+pub mod Meaning

@@ -1,22 +1,17 @@
 -- What the row call and the hop call answer, by cases: which arguments are refused, and where a row stands in its table.
-use mathlib.Core.Path.{_≡_, refl, sym, _∙_, ap}
-use mathlib.Core.Bool.{Bool, true, false}
+use mathlib.Core.Path.{_≡_, _∙_, ap}
+use mathlib.Core.Bool.{true, false}
 use mathlib.Core.List.{List, []}
-use mathlib.Core.Logic.{_⊎_, inl, inr, ⊎-elim, _↔_}
 use Prim.Native.Nat.{ℕ, suc, _+_, _-_, _*_, _≤_, _<_}
 use native.Mathlib.Nat.{le-refl, mul-le-mul}
 use native.Mathlib.Omega.{arith}
 use lib.ListN.{length, getD, take, drop, length-take, length-drop}
-use lib.Seq.{getD-take, getD-drop}
-use Rattle.finite.specs.Truth.{_&_, non, same, below}
-use Rattle.finite.proofs.Truth.{no-tf, bcase, iff, refute, both, and-l, and-r, non-true, true-non, same-eq, same-ne, eq-same, ne-same, below-lt, below-le, lt-below, le-below}
+use Rattle.finite.specs.Truth.{_&_, same, below}
+use Rattle.finite.proofs.Truth.{no-tf, bcase, refute, both, and-l, and-r, non-true, true-non, same-eq, same-ne, eq-same, ne-same, below-lt, below-le, lt-below, le-below}
 use Rattle.nodes.specs.Limits.{maxNodes}
 use Rattle.refusal.specs.declared.Refusal.the-variants.{Unknown}
-use Rattle.rows.specs.Tables.{tableSize}
 use Rattle.rows.specs.Row.{RowFault, few, many, free-size, falling-size, no-node, no-class, rowKnown, tableIn, rowIn, hopIn}
-use Rattle.rows.specs.declared.HopAnswer.{HopAnswer}
 use Rattle.rows.specs.declared.HopAnswer.the-variants.{Next, Refused}
-use Rattle.rows.proofs.Grid.{square-le}
 
 -- the arguments have no fault
 pub record Faultless (free falling : List ℕ) (n node class : ℕ) : Type 0 where

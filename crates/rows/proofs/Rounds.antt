@@ -5,24 +5,24 @@ use mathlib.Core.List.{List}
 use Prim.Native.Nat.{ℕ, suc, _+_, _≤_, _<_}
 use native.Mathlib.Numerals.{add-one}
 use native.Mathlib.Omega.{arith}
-use lib.ListN.{length, getD, set, replicate, length-set, length-replicate, getD-replicate}
+use lib.ListN.{getD, set, replicate, length-set, getD-replicate}
 use lib.Seq.{getD-set-same, getD-set-other}
 use Rattle.finite.specs.Truth.{_&_, _or_, non, same, below}
 use Rattle.finite.specs.Search.{any, least}
 use Rattle.finite.specs.Sets.{has, setOf}
 use Rattle.finite.specs.Lists.{tabulate}
-use Rattle.finite.proofs.Truth.{no-tf, bcase, iff, both, and-l, and-r, and-true, and-false, false-and, or-false, same-eq, same-ne, same-refl, ne-same, below-lt, lt-below}
-use Rattle.finite.proofs.Search.{some-any, least-fact, least-cong}
-use Rattle.finite.proofs.Sets.{has-0, has-setOf, setOf-cong}
+use Rattle.finite.proofs.Truth.{bcase, iff, and-l, and-r, and-true, and-false, false-and, same-eq, same-ne, below-lt, lt-below}
+use Rattle.finite.proofs.Search.{some-any, any-least, least-fact, least-cong}
+use Rattle.finite.proofs.Sets.{has-0, setOf-cong}
 use Rattle.finite.proofs.Lists.{tabulate-at, tabulate-ext, tabulate-cong}
 use Rattle.nodes.specs.Limits.{maxNodes}
+use Rattle.network.specs.Table.{edgeOf}
+use Rattle.network.proofs.Table.{edge-tableFrom}
 use Rattle.lawful.specs.Turn.{rises, falls}
 use Rattle.lawful.specs.Entry.{Layer, leads, joining, layer, lowestLead, none, entry}
-use Rattle.finite.proofs.Search.{any-least}
 use Rattle.lawful.proofs.Layers.{side, layer-ext, layer-none, layer-more, layer-still, layer-rest}
 use Rattle.lawful.proofs.Entries.{entry-self, entry-joins, entry-never}
-use Rattle.rows.specs.Search.{pick, rounds, waysOf, startOf, leadOf, halfOf, roundOf, sideAt, searchAt, OfWays}
-use Rattle.rows.specs.Tables.{columnOf}
+use Rattle.rows.specs.Steps.{pick, rounds, waysOf, startOf, leadOf, halfOf, roundOf, sideAt, searchAt, OfWays, columnOf}
 use Rattle.rows.specs.declared.Side.{Side}
 use Rattle.rows.specs.declared.Search.{Search}
 use Rattle.rows.proofs.Joining.{side-ext}
@@ -48,18 +48,12 @@ module _ (edge : ℕ → ℕ → Bool) (label : ℕ → ℕ) where
 
   -- ---- what the words say of a hop
 
-  up-has : (v u : ℕ) → v < maxNodes → u < maxNodes → has (getD ups v 0) u ≡ rises edge label v u
-  unfolding waysOf
-  up-has v u k l = ap (λ (w : ℕ). has w u) (tabulate-at maxNodes _ v 0 k) ∙ has-setOf maxNodes _ u l
-
-  down-has : (v u : ℕ) → v < maxNodes → u < maxNodes → has (getD downs v 0) u ≡ falls edge label v u
-  unfolding waysOf
-  down-has v u k l = ap (λ (w : ℕ). has w u) (tabulate-at maxNodes _ v 0 k) ∙ has-setOf maxNodes _ u l
-
   words-lead : (s : Layer) (c : Bool) (v u : ℕ) → v < maxNodes → u < maxNodes
-      → has (getD ups v 0) u & has (riseInto c s) u or has (getD downs v 0) u & has (s .fall) u ≡ leads edge label s c v u
-  unfolding leads
-  words-lead s c v u k l = ap₂ (λ (x y : Bool). x or y & has (s .fall) u) (ap (λ (x : Bool). x & has (riseInto c s) u) (up-has v u k l) ∙ rising c) (down-has v u k l)
+      → edgeOf ups v u & has (riseInto c s) u or edgeOf downs v u & has (s .fall) u ≡ leads edge label s c v u
+  unfolding leads waysOf
+  words-lead s c v u k l =
+      ap₂ (λ (x y : Bool). x or y & has (s .fall) u)
+      (ap (λ (x : Bool). x & has (riseInto c s) u) (edge-tableFrom (rises edge label) v u k l) ∙ rising c) (edge-tableFrom (falls edge label) v u k l)
     where
       rising : (d : Bool) → rises edge label v u & has (riseInto d s) u ≡ d & rises edge label v u & has (s .free) u
       rising true = sym (and-true _)

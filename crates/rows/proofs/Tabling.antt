@@ -1,14 +1,15 @@
 -- The tables column by column: the first d columns hold the entries for the destinations below d.
-use mathlib.Core.Path.{_≡_, _∙_, ap}
+use mathlib.Core.Path.{_≡_, ap}
 use mathlib.Core.Bool.{Bool, true, false}
 use mathlib.Core.List.{List}
 use Prim.Native.Nat.{ℕ, _+_, _≤_}
 use lib.ListN.{length, replicate}
 use Rattle.finite.proofs.Lists.{tabulate-length}
 use Rattle.nodes.specs.Limits.{maxNodes}
+use Rattle.network.specs.Table.{tableFrom}
 use Rattle.lawful.specs.Entry.{entry}
-use Rattle.rows.specs.Search.{waysOf, OfWays}
-use Rattle.rows.specs.Tables.{tableSize, rowsOf, tablesOf, columnOf, placedOf}
+use Rattle.rows.specs.Tables.{tableSize, rowsOf, tablesOf}
+use Rattle.rows.specs.Steps.{waysOf, OfWays, columnOf, placedOf}
 use Rattle.rows.specs.declared.Ways.{Ways}
 use Rattle.rows.specs.declared.Column.{Column}
 use Rattle.rows.proofs.Grid.{Columns, columns-none, columns-more, columns-all}
@@ -36,11 +37,11 @@ module _ (edge : ℕ → ℕ → Bool) (label : ℕ → ℕ) where
 
   -- the words of all nodes
   pub up-length : {m d : ℕ} {up down free falling : List ℕ} → Tabling m up down free falling d → length up ≡ maxNodes
-  unfolding waysOf
+  unfolding waysOf tableFrom
   up-length h = rw (h .ups) (tabulate-length maxNodes _)
 
   pub down-length : {m d : ℕ} {up down free falling : List ℕ} → Tabling m up down free falling d → length down ≡ maxNodes
-  unfolding waysOf
+  unfolding waysOf tableFrom
   down-length h = rw (h .downs) (tabulate-length maxNodes _)
 
   pub tabling-more : {m d : ℕ} {up down free falling free′ falling′ : List ℕ} {c : Column} → Tabling m up down free falling d

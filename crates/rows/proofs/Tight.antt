@@ -1,14 +1,14 @@
 -- The promises of this crate's calls determine their answers, and what the answers of `row` and `hop` are in 01's words.
 use mathlib.Core.Path.{_≡_, refl, sym, _∙_, ap}
-use mathlib.Core.Bool.{Bool, true, false}
+use mathlib.Core.Bool.{true}
 use mathlib.Core.List.{List, []}
 use mathlib.Core.Logic.{_⊎_, inl, inr, ⊎-elim, _↔_}
 use Prim.Native.Nat.{ℕ, _+_, _*_, _≤_, _<_, min, zero-le}
 use native.Mathlib.Omega.{arith}
 use lib.ListN.{length, getD}
 use lib.Seq.{getD-take, getD-drop}
-use Rattle.finite.specs.Truth.{_&_, below}
-use Rattle.finite.proofs.Truth.{no-tf, bcase, below-lt, below-le, both, lt-below}
+use Rattle.finite.specs.Truth.{below}
+use Rattle.finite.proofs.Truth.{no-tf, bcase, below-lt, below-le}
 use Rattle.nodes.specs.Limits.{maxNodes}
 use Rattle.network.specs.Table.{edgeOf}
 use Rattle.refusal.specs.Number.{numberOf, placeOf}
@@ -19,7 +19,7 @@ use Rattle.rows.specs.Row.{RowFault, rowKnown, tableIn, rowIn, hopIn}
 use Rattle.rows.specs.declared.Tables.{Tables}
 use Rattle.rows.specs.declared.HopAnswer.{HopAnswer}
 use Rattle.rows.specs.declared.HopAnswer.the-variants.{Next, Refused}
-use Rattle.rows.proofs.Lookup.{Faultless, known-faultless, faulty, fault-unknown, unknown-fault, row-refused, row-known, row-length, hop-known, hop-unknown, free-table, falling-table}
+use Rattle.rows.proofs.Lookup.{known-faultless, fault-unknown, unknown-fault, row-refused, row-known, row-length, hop-known, hop-unknown, free-table, falling-table}
 
 -- ---- any two outcomes that a promise allows are equal
 

@@ -2,13 +2,10 @@
 use mathlib.Core.Bool.{Bool, true, false}
 use mathlib.Core.List.{List, _++_}
 use Prim.Native.Nat.{ℕ, _-_, _*_, _/_, _%_}
-use lib.ListN.{length, getD, replicate}
-use Rattle.finite.specs.Truth.{_&_, same, below}
+use lib.ListN.{length, replicate}
 use Rattle.finite.specs.Lists.{tabulate}
 use Rattle.nodes.specs.Limits.{maxNodes}
 use Rattle.lawful.specs.Entry.{entry}
-use Rattle.rows.specs.Search.{pick}
-use Rattle.rows.specs.declared.Column.{Column}
 use Rattle.rows.specs.declared.Tables.{Tables}
 
 -- the bytes of a table with a row for each of 64 nodes
@@ -25,15 +22,3 @@ padded l = l ++ replicate (tableSize - length l) 0
 
 unfoldable pub tablesOf : ℕ → (ℕ → ℕ → Bool) → (ℕ → ℕ) → Tables
 tablesOf m edge label = record { free = padded (rowsOf m edge label true); falling = padded (rowsOf m edge label false) }
-
--- the entries of all nodes for the destination t
-unfoldable pub columnOf : (ℕ → ℕ → Bool) → (ℕ → ℕ) → ℕ → Column
-columnOf edge label t = record {
-  free = tabulate maxNodes (λ v. entry maxNodes edge label t true v);
-  falling = tabulate maxNodes (λ v. entry maxNodes edge label t false v);
-}
-
--- the table of m columns in which column d is this one
-unfoldable pub placedOf : ℕ → ℕ → List ℕ → List ℕ → List ℕ
-placedOf m d column table =
-    tabulate tableSize (λ i. pick (same (i % m) d & below (i / m) m) (getD column (i / m) 0) (getD table i 0))

@@ -7,8 +7,8 @@ ghost use Rattle.finite.specs.Search.{least};
 ghost use Rattle.finite.specs.Sets.{has};
 ghost use Rattle.nodes.specs.Limits.{maxNodes};
 ghost use Rattle.network.specs.Table.{edgeOf};
-ghost use Rattle.rows.specs.Search.{waysOf, startOf, admitted, halfOf, roundOf, rounds, searchAt, OfWays};
-ghost use Rattle.rows.specs.Tables.{columnOf, placedOf, tablesOf};
+ghost use Rattle.rows.specs.Tables.{tablesOf};
+ghost use Rattle.rows.specs.Steps.{waysOf, startOf, admitted, halfOf, roundOf, rounds, searchAt, OfWays, columnOf, placedOf};
 ghost use Rattle.rows.specs.Row.{rowKnown, rowIn, hopIn};
 use nodes::MAX_NODES;
 use refusal::Refusal;
@@ -189,7 +189,7 @@ pub struct Tables {
 pub fn tables_of(t: &[u64], labels: &[u8], n: usize) -> Tables
     ensures { λ r. ⌜ r ≡ tablesOf (min n maxNodes) (edgeOf (now (t .entry))) (λ u. getD (now (labels .entry)) u 0) ⌝ }
 {
-    let m = if n < MAX_NODES { n } else { MAX_NODES };
+    let m = nodes::capped(n);
     let ways = ways_of(t, labels);
     let up = ways.up;
     let down = ways.down;

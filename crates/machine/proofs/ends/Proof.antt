@@ -1,17 +1,18 @@
 -- `machine::ends` meets its contract: every message passed has its byte of the list.
 use mathlib.Core.Path.{refl}
-use Prim.Native.Nat.{ℕ, _+_, _*_, _-_, _≤_}
+use Prim.Native.Nat.{_+_, _*_, _-_, _≤_}
 use native.Mathlib.Omega.{arith}
-use lib.ListN.{getD, replicate}
-use Rattle.machine.proofs.Arrays.{Filling, filling-none, filling-more, filling-all}
+use lib.ListN.{getD}
+use Rattle.machine.specs.Sizes.{maxMessages}
+use Rattle.machine.proofs.Filling.{Filling, filling-none, filling-more, filling-all}
 use Rattle.machine.proofs.ends.Statement.{statement}
 use Rattle.machine.proofs.ends.Tie as tie
 
 abbrev Inv-loop : tie.InvT-loop
-Inv-loop list first nodes₀ m₀ nodes m = Filling (λ i. getD list (2 * i + first) 0) nodes₀ nodes m × (m ≤ 256)
+Inv-loop list first nodes₀ m₀ nodes m = Filling (λ i. getD list (2 * i + first) 0) nodes₀ nodes m × (m ≤ maxMessages)
 
 abbrev μ-loop : tie.MeasureT-loop
-μ-loop list first nodes₀ m₀ nodes m = 256 - m
+μ-loop list first nodes₀ m₀ nodes m = maxMessages - m
 
 loop-holds : tie.Need-loop-holds Inv-loop μ-loop
 loop-holds c = (filling-none _ _, omega arith)
@@ -38,7 +39,7 @@ loop-again : tie.Need-loop-again Inv-loop μ-loop
 loop-again c = (filling-more _ (c .before .before .loop .inv .0) (omega arith) (c .byte .ensures), omega arith)
 
 returns : tie.Need-returns Inv-loop μ-loop
-returns c = filling-all 256 (c .before .loop .inv .0) refl (c .loop-test .left)
+returns c = filling-all maxMessages (c .before .loop .inv .0) refl (c .loop-test .left)
 
 pub ends-spec : {M : Type 1} → statement M
 ends-spec =

@@ -1,18 +1,26 @@
 -- `machine::step` meets its contract: each return is a case of the definition.
 use mathlib.Core.Path.{sym, _∙_, ap}
 use Prim.Native.Nat.{ℕ, _-_}
+use Rattle.finite.proofs.Truth.{same-eq, same-ne}
 use Rattle.machine.specs.declared.Record.{Record}
 use Rattle.machine.specs.declared.Answer.the-variants.{Moved, Blocked, Delivered}
-use Rattle.machine.proofs.Moves.{with, step-none, step-many, step-already, step-delivered, step-blocked, step-moved}
+use Rattle.machine.specs.Step.{with}
+use Rattle.machine.proofs.Moves.{step-none, step-many, step-already, step-delivered, step-blocked, step-moved}
 use borrow.Author.Needs.{needs}
 use Rattle.machine.proofs.step.Statement.{statement}
 use Rattle.machine.proofs.step.Tie as tie
 
+refused-requires : tie.Need-refused-requires
+refused-requires c κs = search needs
+
 returns : tie.Need-returns
-returns c = sym (step-none _ _ (c .if1 .taken))
+returns c = c .refused .ensures ∙ sym (step-none _ _ (c .before .if1 .taken))
+
+refused-requires-2 : tie.Need-refused-requires-2
+refused-requires-2 c κs = search needs
 
 returns-2 : tie.Need-returns-2
-returns-2 c = sym (step-many _ _ (c .if2 .taken))
+returns-2 c = c .refused2 .ensures ∙ sym (step-many _ _ (c .before .if2 .taken))
 
 is-delivered-requires : tie.Need-is-delivered-requires
 is-delivered-requires c κs = search needs
@@ -22,23 +30,20 @@ returns-3 c =
     let f = c .before .before in
     sym (step-already _ _ (f .before .if1 .left) (f .if2 .left) (sym (c .before .is-delivered .ensures) ∙ c .if3 .taken))
 
-head-requires : tie.Need-head-requires
-head-requires c κs = search needs
-
-target-requires : tie.Need-target-requires
-target-requires c κs = search needs
+is-there-requires : tie.Need-is-there-requires
+is-there-requires c κs = search needs
 
 arrive-requires : tie.Need-arrive-requires
 arrive-requires c κs = search needs
 
 returns-4 : tie.Need-returns-4
 returns-4 c =
-    let t = c .before .before in
+    let t = c .before in
     let d = t .before .before in
     let f = d .before .before in
     ap (λ (r : Record). with r Delivered) (c .arrive .ensures)
     ∙ sym (step-delivered _ _ (f .before .if1 .left) (f .if2 .left) (sym (d .before .is-delivered .ensures) ∙ d .if3 .left)
-    (sym (t .before .head .ensures) ∙ c .before .if4 .taken ∙ t .target .ensures))
+    (same-eq _ _ (sym (t .before .is-there .ensures) ∙ t .if4 .taken)))
 
 next-holder-requires : tie.Need-next-holder-requires
 next-holder-requires c κs = search needs
@@ -53,12 +58,11 @@ returns-5 : tie.Need-returns-5
 returns-5 c =
     let h = c .before in
     let e = h .before in
-    let t = e .before in
-    let d = t .before .before in
+    let d = e .before .before in
     let f = d .before .before in
     ap (λ (x : ℕ). with (f .before .before .before .args .«record») (Blocked (x - 1))) (h .next-holder .ensures)
     ∙ sym (step-blocked _ _ (f .before .if1 .left) (f .if2 .left) (sym (d .before .is-delivered .ensures) ∙ d .if3 .left)
-    (λ q. e .if4 .left (t .before .head .ensures ∙ q ∙ sym (t .target .ensures))) (λ q. c .if5 .taken (h .next-holder .ensures ∙ q)))
+    (same-ne _ _ (sym (e .before .is-there .ensures) ∙ e .if4 .left)) (λ q. c .if5 .taken (h .next-holder .ensures ∙ q)))
 
 advance-requires : tie.Need-advance-requires
 advance-requires c κs = search needs
@@ -67,23 +71,23 @@ returns-6 : tie.Need-returns-6
 returns-6 c =
     let h = c .before .before in
     let e = h .before in
-    let t = e .before in
-    let d = t .before .before in
+    let d = e .before .before in
     let f = d .before .before in
     ap (λ (r : Record). with r Moved) (c .advance .ensures)
     ∙ sym (step-moved _ _ (f .before .if1 .left) (f .if2 .left) (sym (d .before .is-delivered .ensures) ∙ d .if3 .left)
-    (λ q. e .if4 .left (t .before .head .ensures ∙ q ∙ sym (t .target .ensures))) (sym (h .next-holder .ensures) ∙ c .before .if5 .left))
+    (same-ne _ _ (sym (e .before .is-there .ensures) ∙ e .if4 .left)) (sym (h .next-holder .ensures) ∙ c .before .if5 .left))
 
 pub step-spec : {M : Type 1} → statement M
 step-spec =
     tie.close
     (tie.spec
+    refused-requires
     returns
+    refused-requires-2
     returns-2
     is-delivered-requires
     returns-3
-    head-requires
-    target-requires
+    is-there-requires
     arrive-requires
     returns-4
     next-holder-requires

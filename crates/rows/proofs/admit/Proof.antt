@@ -1,5 +1,5 @@
 -- `rows::admit` meets its contract.
-use mathlib.Core.Path.{sym, _∙_, ap}
+use mathlib.Core.Path.{sym, _∙_}
 use Rattle.finite.proofs.Truth.{both, refute, and-l, and-r, no-tf, true-non, non-true, le-below, lt-below}
 use Rattle.rows.proofs.Joining.{admit-joins, admit-stays}
 use borrow.Author.Needs.{needs}

@@ -4,7 +4,8 @@ use Prim.Native.Nat.{_-_, _≤_}
 use native.Mathlib.Omega.{arith}
 use lib.ListN.{length-map}
 use Rattle.nodes.specs.Limits.{maxNodes}
-use Rattle.rows.specs.Search.{leadOf}
+use Rattle.network.specs.Table.{edgeOf}
+use Rattle.rows.specs.Steps.{leadOf}
 use Rattle.rows.proofs.Joining.{Halving, halving-none, halving-more, halving-all}
 use Rattle.rows.proofs.half.Statement.{statement}
 use Rattle.rows.proofs.half.Tie as tie
@@ -40,7 +41,7 @@ loop-less : tie.Need-loop-less Inv-loop μ-loop
 loop-less c = omega arith
 
 loop-again : tie.Need-loop-again Inv-loop μ-loop
-unfolding leadOf
+unfolding leadOf edgeOf
 loop-again c =
     let l = c .before in
     let r = l .before in (

@@ -1,5 +1,5 @@
 -- `rows::round` meets its contract: both classes go by the sets from the beginning of the round.
-use Rattle.rows.specs.Search.{roundOf}
+use Rattle.rows.specs.Steps.{roundOf}
 use Rattle.rows.proofs.Rounds.{search-ext}
 use borrow.Author.Needs.{needs}
 use Rattle.rows.proofs.round.Statement.{statement}

@@ -2,7 +2,7 @@
 use mathlib.Core.Path.{_≡_, _∙_, sym}
 use Prim.Native.Nat.{_-_, _≤_}
 use native.Mathlib.Omega.{arith}
-use Rattle.rows.specs.Search.{rounds}
+use Rattle.rows.specs.Steps.{rounds}
 use Rattle.rows.proofs.Rounds.{Searching, searching-none, searching-more, searching-still}
 use Rattle.rows.proofs.search_for.Statement.{statement}
 use Rattle.rows.proofs.search_for.Tie as tie

@@ -1,5 +1,5 @@
 -- `rows::start` meets its contract.
-use Rattle.rows.specs.Search.{startOf}
+use Rattle.rows.specs.Steps.{startOf}
 use borrow.Author.Needs.{needs}
 use Rattle.rows.proofs.start.Statement.{statement}
 use Rattle.rows.proofs.start.Tie as tie

@@ -2,7 +2,6 @@
 use mathlib.Core.Path.{_≡_, sym}
 use Prim.Native.Nat.{_-_, _≤_, min}
 use native.Mathlib.Omega.{arith}
-use mathlib.Core.Logic.{⊎-elim}
 use lib.ListN.{getD}
 use Rattle.nodes.specs.Limits.{maxNodes}
 use Rattle.network.specs.Table.{edgeOf}
@@ -16,14 +15,16 @@ Inv-loop t labels n m up down free₀ falling₀ d₀ free falling d = Tabling (
 abbrev μ-loop : tie.MeasureT-loop
 μ-loop t labels n m up down free₀ falling₀ d₀ free falling d = m - d
 
+capped-requires : tie.Need-capped-requires Inv-loop μ-loop
+capped-requires c κs = tt
+
 ways-of-requires : tie.Need-ways-of-requires Inv-loop μ-loop
 ways-of-requires c κs = tt
 
 loop-holds : tie.Need-loop-holds Inv-loop μ-loop
 loop-holds c =
     let w = c .before .before in
-    let e : w .before .if1 .m ≡ min (w .before .before .before .before .args .n) maxNodes =
-    ⊎-elim (λ x. let t = x .0 .taken in omega arith) (λ x. let t = x .0 .left in omega arith) (w .before .if1 .came) in
+    let e = w .before .capped .ensures in
     (tabling-none _ _ (omega arith) (w .ways-of .ensures), e, omega arith)
 
 slice-aggregate-column-of : tie.Need-slice-aggregate-column-of Inv-loop μ-loop
@@ -65,6 +66,7 @@ tables-of-spec =
     (tie.spec
     Inv-loop
     μ-loop
+    capped-requires
     ways-of-requires
     loop-holds
     slice-aggregate-column-of

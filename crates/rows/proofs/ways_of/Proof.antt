@@ -1,12 +1,12 @@
 -- `rows::ways_of` meets its contract. The invariant: both lists are filled from the front.
-use Prim.Native.Nat.{ℕ, _-_, _≤_}
+use Prim.Native.Nat.{_-_, _≤_}
 use native.Mathlib.Omega.{arith}
 use lib.ListN.{getD}
 use Rattle.finite.specs.Sets.{setOf}
 use Rattle.nodes.specs.Limits.{maxNodes}
-use Rattle.network.specs.Table.{edgeOf}
+use Rattle.network.specs.Table.{edgeOf, tableFrom}
 use Rattle.lawful.specs.Turn.{rises, falls}
-use Rattle.rows.specs.Search.{waysOf}
+use Rattle.rows.specs.Steps.{waysOf}
 use Rattle.rows.proofs.Fill.{Filled, filled-none, filled-more, filled-all}
 use Rattle.rows.proofs.ways_of.Statement.{statement}
 use Rattle.rows.proofs.ways_of.Tie as tie
@@ -51,7 +51,7 @@ loop-again c =
     (filled-more (inv .0) (omega arith) (c .before .rising .ensures), filled-more (inv .1) (omega arith) (c .falling .ensures), omega arith)
 
 returns : tie.Need-returns Inv-loop μ-loop
-unfolding waysOf
+unfolding waysOf tableFrom
 returns c = let inv = c .before .loop .inv in λ i. record { up = filled-all (inv .0) (c .loop-test .left) i; down = filled-all (inv .1) (c .loop-test .left) i }
 
 pub ways-of-spec : {M : Type 1} → statement M

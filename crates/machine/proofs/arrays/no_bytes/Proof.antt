@@ -1,0 +1,12 @@
+-- `machine::arrays::no_bytes` meets its contract.
+use mathlib.Core.Path.{refl}
+use Rattle.machine.specs.Fresh.{zeros}
+use Rattle.machine.proofs.arrays.no_bytes.Statement.{statement}
+use Rattle.machine.proofs.arrays.no_bytes.Tie as tie
+
+returns : tie.Need-returns
+unfolding zeros
+returns c = refl
+
+pub no-bytes-spec : {M : Type 1} → statement M
+no-bytes-spec = tie.close (tie.spec returns)

@@ -1,0 +1,12 @@
+-- `machine::arrays::no_holders` meets its contract.
+use mathlib.Core.Path.{refl}
+use Rattle.machine.specs.Fresh.{zeros}
+use Rattle.machine.proofs.arrays.no_holders.Statement.{statement}
+use Rattle.machine.proofs.arrays.no_holders.Tie as tie
+
+returns : tie.Need-returns
+unfolding zeros
+returns c = refl
+
+pub no-holders-spec : {M : Type 1} → statement M
+no-holders-spec = tie.close (tie.spec returns)

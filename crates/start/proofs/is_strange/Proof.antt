@@ -1,0 +1,44 @@
+-- `start::is_strange` meets its contract: the source, then the destination.
+use mathlib.Core.Path.{_∙_, ap}
+use native.Mathlib.Omega.{arith}
+use Prim.Native.Nat.{ℕ}
+use lib.Dec.{leb}
+use Rattle.start.proofs.Cases.{strange-source, strange-target}
+use borrow.Author.Needs.{needs}
+use Rattle.start.proofs.is_strange.Statement.{statement}
+use Rattle.start.proofs.is_strange.Tie as tie
+
+mul-byte-at : tie.Need-mul-byte-at
+mul-byte-at c = search needs
+
+byte-at-requires : tie.Need-byte-at-requires
+byte-at-requires c κs = search needs
+
+returns : tie.Need-returns
+returns c = strange-source _ _ _ (let e = c .before .byte-at .ensures in omega arith)
+
+mul-byte-at-2 : tie.Need-mul-byte-at-2
+mul-byte-at-2 c = search needs
+
+add-byte-at : tie.Need-add-byte-at
+add-byte-at c = search needs
+
+byte-at-requires-2 : tie.Need-byte-at-requires-2
+byte-at-requires-2 c κs = search needs
+
+returns-2 : tie.Need-returns-2
+returns-2 c =
+    let s = c .before .before .before .before in
+    ap (leb (s .args .n)) (c .byte-at2 .ensures) ∙ strange-target _ _ (s .args .p) (let e = c .before .before .byte-at .ensures in omega arith)
+
+pub is-strange-spec : {M : Type 1} → statement M
+is-strange-spec =
+    tie.close
+    (tie.spec
+    mul-byte-at
+    byte-at-requires
+    returns
+    mul-byte-at-2
+    add-byte-at
+    byte-at-requires-2
+    returns-2)

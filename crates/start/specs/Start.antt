@@ -1,0 +1,58 @@
+-- The start call: what it refuses, and the record afterwards.
+use mathlib.Core.Bool.{Bool, true, false}
+use mathlib.Core.List.{List}
+use Prim.Native.Nat.{ℕ, _/_, _%_}
+use lib.Dec.{leb, eqb}
+use lib.ListN.{length}
+use Rattle.finite.specs.Truth.{_&_, _or_, below}
+use Rattle.finite.specs.Search.{least}
+use Rattle.nodes.specs.Limits.{maxNodes}
+use Rattle.refusal.specs.declared.Refusal.the-variants.{Unknown, Messages}
+use Rattle.refusal.specs.declared.Verdict.{Verdict}
+use Rattle.refusal.specs.declared.Verdict.the-variants.{Fine, Fault}
+use Rattle.cabling.specs.Cabling.{links}
+use Rattle.rule.specs.Labels.{labelsOf}
+use Rattle.rows.specs.declared.Tables.{Tables}
+use Rattle.rows.specs.Tables.{tablesOf}
+use Rattle.format.specs.Contents.{nodesIn, pairsIn}
+use Rattle.image.specs.Image.{labelOf}
+use Rattle.image.specs.Calls.{andThen, imageFault}
+use Rattle.machine.specs.declared.Record.{Record}
+use Rattle.machine.specs.Fresh.{sourceIn, targetIn, begunOf}
+use Rattle.start.specs.declared.Started.{Started}
+
+-- 11: "message list odd or over 512 bytes"
+unfoldable pub fits : List ℕ → Bool
+fits list = eqb (length list % 2) 0 & leb (length list) 512
+
+-- 10: "a node ≥ N in the list"
+unfoldable pub strange : ℕ → List ℕ → ℕ → Bool
+strange n list p = leb n (sourceIn list p) or leb n (targetIn list p)
+
+-- 11 before 10, which has the place of the first such pair
+unfoldable pub listFault : ℕ → List ℕ → Verdict
+listFault n list =
+    elim (fits list) [
+      | false ↦ Fault Messages
+      | true ↦
+          let p : ℕ = least (length list / 2) (strange n list) in
+          elim (below p (length list / 2)) [ true ↦ Fault (Unknown p) | false ↦ Fine ]
+    ]
+
+-- "image by read's rules", and then the list
+abbrev pub startFault : List ℕ → List ℕ → Verdict
+startFault b list = andThen (imageFault b) (listFault (nodesIn b) list)
+
+-- "a fresh start resets everything": labels and rows are what the rules give for the cabling of the image
+unfoldable pub freshOf : List ℕ → List ℕ → Record
+freshOf b list =
+    let tables : Tables = tablesOf (nodesIn b) (links (pairsIn b)) (labelOf (nodesIn b) (pairsIn b)) in
+    begunOf (nodesIn b) (labelsOf maxNodes (links (pairsIn b)) (nodesIn b)) (tables .free) (tables .falling) list
+
+-- "buffers and record stay untouched"
+unfoldable pub recordAfter : Verdict → Record → Record → Record
+recordAfter Fine old new = new
+recordAfter (Fault r) old new = old
+
+unfoldable pub startOf : Record → List ℕ → List ℕ → Started
+startOf old b list = record { verdict = startFault b list; «record» = recordAfter (startFault b list) old (freshOf b list) }

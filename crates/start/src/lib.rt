@@ -1,0 +1,99 @@
+// The start call of the drain machine: an image under read's rules, the list of messages under its own, and then a fresh record.
+ghost use mathlib.Core.Path.{_≡_};
+ghost use Prim.Native.Nat.{_≤_, _<_, _/_};
+ghost use lib.ListN.{length};
+ghost use Rattle.finite.specs.Search.{least};
+ghost use Rattle.nodes.specs.Limits.{maxNodes};
+ghost use Rattle.format.specs.Contents.{nodesIn};
+ghost use Rattle.start.specs.Start.{strange, listFault, freshOf, startOf};
+use machine::Record;
+use refusal::Refusal;
+use refusal::Verdict;
+
+// What start answers: the verdict, and the record: fresh, or as it was where the call is refused.
+pub struct Started {
+    verdict: Verdict,
+    record: Record,
+}
+
+// The bytes that the list of 256 messages has.
+const MAX_LIST: usize = 512;
+
+// Is an end of message p not a node?
+fn is_strange(n: usize, list: &[u8], p: usize) -> bool
+    requires { ⌜ p < length (now list) / 2 ⌝ }
+    ensures { λ r. ⌜ r ≡ strange n (now (list .entry)) p ⌝ }
+{
+    if n <= network::byte_at(list, 2 * p) {
+        return true;
+    }
+    n <= network::byte_at(list, 2 * p + 1)
+}
+
+// The first message with an end that is not a node, the number of messages where there is none.
+fn first_strange(n: usize, list: &[u8]) -> usize
+    ensures { λ r. ⌜ r ≡ least (length (now (list .entry)) / 2) (strange n (now (list .entry))) ⌝ }
+{
+    let messages = list.len() / 2;
+    for p in 0..messages {
+        if is_strange(n, list, p) {
+            return p;
+        }
+    }
+    messages
+}
+
+// 11, then 10 at the message's place.
+fn list_fault(n: usize, list: &[u8]) -> Verdict
+    ensures { λ r. ⌜ r ≡ listFault n (now (list .entry)) ⌝ }
+{
+    if list.len() % 2 != 0 {
+        return Verdict::Fault(Refusal::Messages);
+    }
+    if MAX_LIST < list.len() {
+        return Verdict::Fault(Refusal::Messages);
+    }
+    let p = first_strange(n, list);
+    if p < list.len() / 2 {
+        return Verdict::Fault(Refusal::Unknown(p));
+    }
+    Verdict::Fine
+}
+
+// The record of a fresh start.
+fn fresh(image: &[u8], list: &[u8]) -> Record
+    requires { ⌜ nodesIn (now image) ≤ maxNodes ⌝ }
+    ensures { λ r. ⌜ r ≡ freshOf (now (image .entry)) (now (list .entry)) ⌝ }
+{
+    let n = format::nodes_in(image);
+    let t = network::table_of(format::pairs_in(image));
+    let labels = labels::labels(t, n);
+    let tables = rows::tables_of(&t, &labels, n);
+    let free = tables.free;
+    let falling = tables.falling;
+    machine::begun(n, labels, free, falling, list)
+}
+
+// Starts the machine afresh: 1 to 8 of the image, 11, 10.
+pub fn start(record: Record, image: &[u8], list: &[u8]) -> Started
+    ensures { λ r. ⌜ r ≡ startOf «record» (now (image .entry)) (now (list .entry)) ⌝ }
+{
+    let first = image::verdict(image);
+    if let Verdict::Fault(r) = first {
+        return Started {
+            verdict: Verdict::Fault(r),
+            record,
+        };
+    }
+    let second = list_fault(format::nodes_in(image), list);
+    if let Verdict::Fault(r) = second {
+        return Started {
+            verdict: Verdict::Fault(r),
+            record,
+        };
+    }
+    Started {
+        verdict: Verdict::Fine,
+        record: fresh(image, list),
+    }
+}
