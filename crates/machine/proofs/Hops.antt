@@ -1,6 +1,6 @@
 -- A message's next hop in a state: the entry of its class, along the channel that the claims say it wants.
 use mathlib.Core.Path.{_≡_, sym, _∙_, ap, ap₂}
-use mathlib.Core.Bool.{Bool}
+use mathlib.Core.Bool.{Bool, true, false}
 use mathlib.Core.List.{List}
 use Prim.Native.Nat.{ℕ, suc, _+_, _*_, _-_, _<_, min}
 use native.Mathlib.Omega.{arith}
@@ -13,7 +13,7 @@ use Rattle.nodes.specs.Limits.{maxNodes}
 use Rattle.claims.specs.Claims.{Progress, wanted}
 use Rattle.machine.specs.Sizes.{maxMessages, maxPairs}
 use Rattle.machine.specs.declared.Record.{Record}
-use Rattle.machine.specs.Step.{head, target, isFalling, place, nextNode, channel, nextChannel}
+use Rattle.machine.specs.Step.{head, target, isFalling, place, tableOf, nextNode, channel, nextChannel}
 use Rattle.machine.specs.Fresh.{sourceIn, targetIn}
 use Rattle.machine.specs.Runs.{labelIn, Fabric, Listed, messagesIn, routeIn, itineraryIn}
 use Rattle.machine.proofs.Moves.{table-falling, table-free}
@@ -44,26 +44,28 @@ module _ {n : ℕ} {edge : ℕ → ℕ → Bool} {labels free falling list : Lis
   on-way : OnRoute n edge labels list m (s .taken m) class (head r m)
   on-way = state .way m low
 
+  -- the entry of class c, where that is its class and its table is the one of that class
+  entry-of : (c : Bool) {rows : List ℕ} → class ≡ c → tableOf r m ≡ rows
+      → getD rows (head r m * n + targetIn list m) 0 ≡ entry maxNodes edge (labelIn labels) (targetIn list m) c (head r m) → nextNode r m ≡ entry-here
+  unfolding nextNode
+  entry-of c e t h =
+      ap₂ (λ (x : List ℕ) (i : ℕ). getD x i 0) t place-is ∙ h
+      ∙ ap (λ (b : Bool). entry maxNodes edge (labelIn labels) (targetIn list m) b (head r m)) (sym e)
+
   -- the next node is the entry of its class
   pub next-entry : nextNode r m ≡ entry-here
-  unfolding nextNode
   next-entry =
       let here = on-way .low in
       let there = target-low fabric listed m low in
       bcase (isFalling r m)
-      (λ t.
-      ap₂ (λ (x : List ℕ) (i : ℕ). getD x i 0) (table-falling r m t ∙ state .kept .falling-are) place-is ∙ fabric .falling-rows (head r m) (targetIn list m) here there
-      ∙ ap (λ (c : Bool). entry maxNodes edge (labelIn labels) (targetIn list m) c (head r m)) (sym (false-non t)))
-      (λ t.
-      ap₂ (λ (x : List ℕ) (i : ℕ). getD x i 0) (table-free r m t ∙ state .kept .free-are) place-is ∙ fabric .free-rows (head r m) (targetIn list m) here there
-      ∙ ap (λ (c : Bool). entry maxNodes edge (labelIn labels) (targetIn list m) c (head r m)) (sym (true-non t)))
+      (λ t. entry-of false (false-non t) (table-falling r m t ∙ state .kept .falling-are) (fabric .falling-rows (head r m) (targetIn list m) here there))
+      (λ t. entry-of true (true-non t) (table-free r m t ∙ state .kept .free-are) (fabric .free-rows (head r m) (targetIn list m) here there))
 
   -- at its destination it has taken all its channels
   pub all-taken : head r m ≡ target r m → s .taken m ≡ length (itineraryIn edge labels list m)
   unfolding itineraryIn
   all-taken e =
-      way-end n edge (labelIn labels) (fabric .many) (fabric .network .inside) (sourceIn list m) (targetIn list m) (target-low fabric listed m low)
-      (routeIn edge labels list m) (s .taken m) class (head r m) on-way (e ∙ goes)
+      way-end (fabric .many) (fabric .network .inside) (target-low fabric listed m low) on-way (e ∙ goes)
       ∙ sym (channels-length (sourceIn list m) (routeIn edge labels list m))
 
   -- anywhere else there is a channel more to take, and it is the next
@@ -75,16 +77,10 @@ module _ {n : ℕ} {edge : ℕ → ℕ → Bool} {labels free falling list : Lis
     class-then = after edge (labelIn labels) class (head r m) (nextNode r m)
 
     pub next-hop : Hop edge (labelIn labels) class (head r m) class-then (nextNode r m)
-    next-hop =
-        rw next-entry
-        (way-hop n edge (labelIn labels) (fabric .many) (fabric .network .inside) (sourceIn list m) (targetIn list m) (target-low fabric listed m low)
-        (routeIn edge labels list m) (s .taken m) class (head r m) on-way not-there)
+    next-hop = rw next-entry (way-hop (fabric .many) (fabric .network .inside) (target-low fabric listed m low) on-way not-there)
 
     pub next-way : OnRoute n edge labels list m (suc (s .taken m)) class-then (nextNode r m)
-    next-way =
-        rw next-entry
-        (way-next n edge (labelIn labels) (fabric .many) (fabric .network .inside) (sourceIn list m) (targetIn list m) (target-low fabric listed m low)
-        (routeIn edge labels list m) (s .taken m) class (head r m) on-way not-there)
+    next-way = rw next-entry (way-next (fabric .many) (fabric .network .inside) (target-low fabric listed m low) on-way not-there)
 
     more-route : s .taken m < length (routeIn edge labels list m)
     more-route = next-way .within

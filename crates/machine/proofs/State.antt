@@ -115,7 +115,7 @@ module _ {n : ℕ} {edge : ℕ → ℕ → Bool} {labels free falling list : Lis
   start-way m l =
       let r = climbing-run n edge (labelIn labels) (fabric .climbing) (fabric .network .undirected) (sourceIn list m) (targetIn list m) (source-low m l) (target-low m l) in
       rw (start-free m, start-head m l)
-      (way-start n edge (labelIn labels) (fabric .many) (fabric .network .inside) (sourceIn list m) (targetIn list m) (target-low m l) (source-low m l) _ (r .1))
+      (way-start (fabric .many) (fabric .network .inside) (target-low m l) (source-low m l) _ (r .1))
 
   pub start-state : State n edge labels free falling list start none-taken
   start-state = record {

@@ -40,10 +40,10 @@ pub record OnWay (n : ℕ) (edge : ℕ → ℕ → Bool) (label : ℕ → ℕ) (
   pub enough : hopsOf maxNodes edge label t class node ≤ fuel
   pub rest : follow edge label (entry maxNodes edge label t) t fuel class node ≡ drop i l
 
-module _ (n : ℕ) (edge : ℕ → ℕ → Bool) (label : ℕ → ℕ) (many : n ≤ maxNodes) (inside : (a b : ℕ) → edge a b ≡ true → b < n) (v t : ℕ) (low : t < n) where
-  within-limit : (a b : ℕ) → edge a b ≡ true → b < maxNodes
-  within-limit a b e = let l = inside a b e in omega arith
+within-limit : {n : ℕ} {edge : ℕ → ℕ → Bool} → n ≤ maxNodes → ((a b : ℕ) → edge a b ≡ true → b < n) → (a b : ℕ) → edge a b ≡ true → b < maxNodes
+within-limit many inside a b e = let l = inside a b e in omega arith
 
+module _ {n : ℕ} {edge : ℕ → ℕ → Bool} {label : ℕ → ℕ} (many : n ≤ maxNodes) (inside : (a b : ℕ) → edge a b ≡ true → b < n) {v t : ℕ} (low : t < n) where
   pub way-start : v < n → (k : ℕ) → Run edge label true v t k → OnWay n edge label v t (routeOf maxNodes edge label v t) 0 true v
   unfolding routeOf
   way-start l k r = record {
@@ -53,52 +53,49 @@ module _ (n : ℕ) (edge : ℕ → ℕ → Bool) (label : ℕ → ℕ) (many : n
     left = k;
     run = r;
     fuel = maxNodes + maxNodes;
-    enough = le-of-lt (hops-bound maxNodes edge label t within-limit (omega arith) r);
+    enough = le-of-lt (hops-bound maxNodes edge label t (within-limit many inside) (omega arith) r);
     rest = refl;
   }
 
-  module _ (l : List ℕ) (i : ℕ) (class : Bool) (node : ℕ) (w : OnWay n edge label v t l i class node) where
+  module _ {l : List ℕ} {i : ℕ} {class : Bool} {node : ℕ} (w : OnWay n edge label v t l i class node) where
     -- at t the route is over
     pub way-end : node ≡ t → i ≡ length l
     way-end e =
         let b = w .within in
-        let f = ap (λ (x : ℕ). follow edge label (entry maxNodes edge label t) t (w .fuel) class x) (sym e) in
-        let z = drop-end l i (sym (w .rest) ∙ sym f ∙ follow-here edge label (entry maxNodes edge label t) t (w .fuel) class) in
+        let f = ap (follow edge label (entry maxNodes edge label t) t (w .fuel) class) e in
+        let z = drop-end l i (sym (w .rest) ∙ f ∙ follow-here edge label (entry maxNodes edge label t) t (w .fuel) class) in
         omega arith
 
     abbrev next : ℕ
     next = entry maxNodes edge label t class node
 
+    abbrev class-then : Bool
+    class-then = after edge label class node next
+
     -- anywhere else the entry is the next node of the route, and the message is on its way from there
     module _ (d : node ≡ t → ⊥) where
       nearer : Nearer maxNodes edge label t class node next
-      nearer = entry-nearer maxNodes edge label t within-limit (omega arith) d (w .run)
+      nearer = entry-nearer maxNodes edge label t (within-limit many inside) (omega arith) d (w .run)
 
-      pub way-hop : Hop edge label class node (after edge label class node next) next
+      pub way-hop : Hop edge label class node class-then next
       way-hop = nearer .first
 
-      pub way-split : (fuel : ℕ) × (hopsOf maxNodes edge label t (after edge label class node next) next ≤ fuel)
-          × Split l i next (follow edge label (entry maxNodes edge label t) t fuel (after edge label class node next) next)
-      way-split = go (w .fuel) (w .enough) (w .rest)
+      pub way-next : OnWay n edge label v t l (suc i) class-then next
+      way-next = go (w .fuel) (w .enough) (w .rest)
         where
           go : (k : ℕ) → hopsOf maxNodes edge label t class node ≤ k → follow edge label (entry maxNodes edge label t) t k class node ≡ drop i l
-              → (fuel : ℕ) × (hopsOf maxNodes edge label t (after edge label class node next) next ≤ fuel)
-              × Split l i next (follow edge label (entry maxNodes edge label t) t fuel (after edge label class node next) next)
-          go zero b e = let z = nearer .less in absurd (omega arith)
-          go (suc k) b e = (
-            k,
-            let z = nearer .less in omega arith,
-            drop-split l i next _ (sym e ∙ follow-there edge label (entry maxNodes edge label t) t k class node d),
-          )
-
-      pub way-next : OnWay n edge label v t l (suc i) (after edge label class node next) next
-      way-next = record {
-        low = inside _ _ (hop-edge way-hop);
-        within = way-split .2 .low;
-        at = sym (way-split .2 .here);
-        left = hopsOf maxNodes edge label t (after edge label class node next) next;
-        run = nearer .run;
-        fuel = way-split .0;
-        enough = way-split .1;
-        rest = sym (way-split .2 .on);
-      }
+              → OnWay n edge label v t l (suc i) class-then next
+          go zero b e = let less = nearer .less in absurd (omega arith)
+          go (suc k) b e =
+              let less = nearer .less in
+              let s = drop-split l i next _ (sym e ∙ follow-there edge label (entry maxNodes edge label t) t k class node d) in
+              record {
+                low = inside _ _ (hop-edge way-hop);
+                within = s .low;
+                at = sym (s .here);
+                left = hopsOf maxNodes edge label t class-then next;
+                run = nearer .run;
+                fuel = k;
+                enough = omega arith;
+                rest = sym (s .on);
+              }

@@ -42,7 +42,7 @@ pub record BlockedBy (k : ℕ) (r : Record) (m b : ℕ) : Type 0 where
   pub undelivered : isDelivered r b ≡ false
   pub holds-it : holder r (nextChannel r m) ≡ suc b
 
--- message m was i hops along its route and took the next channel of it
+-- message m had hops to go and took the next channel of its route
 pub record Took (k : ℕ) (edge : ℕ → ℕ → Bool) (labels list : List ℕ) (r : Record) (m : ℕ) (after : Record) : Type 0 where
   pub progress : Progress
   pub before : Says k edge labels list r progress

@@ -1,1 +1,3 @@
 pub mod Cases
+pub mod Fabrics
+pub mod Tight
