@@ -16,10 +16,12 @@ use Rattle.graph.specs.Network.{among, degree}
 use Rattle.graph.specs.Reach.{grow, spread, reach, covers, joined, connected, cut}
 use Rattle.network.specs.Table.{joins, linkedBy, linked, edgeOf}
 use Rattle.lawful.specs.Turn.{rises, falls, prohibited}
-use Rattle.lawful.specs.Entry.{leads, joining, layer, lowestLead, firstLayer, entry}
+use Rattle.lawful.specs.Entry.{leads, joining, layer, lowestLead, firstLayer, entry, after, follow, routeOf}
 use Rattle.rule.specs.Candidate.{room, candidate, choice}
 use Rattle.rule.specs.Labels.{remains, give, stage, labelled, labelsOf}
 use Rattle.turns.specs.Turns.{turnsThat}
+use Rattle.format.specs.Bytes.{entriesOf, joinedUp, imageFrom}
+use Rattle.order.specs.Seed.{lookAt}
 use Rattle.worked.specs.Networks.{Worked, worked}
 use Rattle.worked.specs.Right.{Listed, isListed, Right, isRight, allRight}
 
@@ -36,6 +38,10 @@ right e h =
     let h₃ = and-r _ _ h₂ in
     let h₄ = and-r _ _ h₃ in
     let h₅ = and-r _ _ h₄ in
+    let h₆ = and-r _ _ h₅ in
+    let h₇ = and-r _ _ h₆ in
+    let h₈ = and-r _ _ h₇ in
+    let h₉ = and-r _ _ h₈ in
     record {
       words = alike-eq _ _ (and-l _ _ h);
       labels = alike-eq _ _ (and-l _ _ h₁);
@@ -43,7 +49,11 @@ right e h =
       prohibited = eqb-true _ _ (and-l _ _ h₃);
       first = eqb-true _ _ (and-l _ _ h₄);
       free = listed _ _ (and-l _ _ h₅);
-      falling = listed _ _ (and-r _ _ h₅);
+      falling = listed _ _ (and-l _ _ h₆);
+      links-image = listed _ _ (and-l _ _ h₇);
+      full-image = listed _ _ (and-l _ _ h₈);
+      moves = eqb-true _ _ (and-l _ _ h₉);
+      look = eqb-true _ _ (and-r _ _ h₉);
     }
 
 all-right : (l : List Worked) → allRight l ≡ true → (e : Worked) → List·Memᴰ e l → Right e
@@ -53,7 +63,7 @@ all-right (x ∷ l) h e m =
     ⊎-elim (λ q. subst⁻¹ Right q (right x (and-l _ _ h))) (λ q. all-right l (and-r _ _ h) e q) (List·Memᴰ·cases-cons m)
 
 computed : allRight worked ≡ true
-unfolding _&_ _or_ non same below sumTo any all least leastValue lowestAt leastBy has setOf without upFrom tabulate among degree grow spread reach covers joined connected cut joins linkedBy linked edgeOf rises falls prohibited leads joining layer lowestLead firstLayer entry room candidate choice remains give stage labelled labelsOf turnsThat alike isListed isRight allRight
+unfolding _&_ _or_ non same below sumTo any all least leastValue lowestAt leastBy has setOf without upFrom tabulate among degree grow spread reach covers joined connected cut joins linkedBy linked edgeOf rises falls prohibited leads joining layer lowestLead firstLayer entry after follow routeOf entriesOf joinedUp imageFrom lookAt room candidate choice remains give stage labelled labelsOf turnsThat alike isListed isRight allRight
 computed = refl
 
 pub every-right : (e : Worked) → List·Memᴰ e worked → Right e

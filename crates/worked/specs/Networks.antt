@@ -2,8 +2,8 @@
 use mathlib.Core.List.{List, [], _∷_}
 use Prim.Native.Nat.{ℕ}
 
--- a network as pairs and as neighbour words, with what the rules give for it: the labels, T, W, the node that is labelled first, and both tables of rows;
--- tables that are left empty are not part of what is worked by hand
+-- a network as pairs and as neighbour words, with what the rules give for it: the labels, T, W, the node that is labelled first, both tables of rows, and both images;
+-- what is left empty is not part of what is worked by hand. Then messages, how many successful moves drain them, and which of them seed 0 looks at first
 pub record Worked : Type 0 where
   pub nodes : ℕ
   pub pairs : List ℕ
@@ -14,8 +14,13 @@ pub record Worked : Type 0 where
   pub first : ℕ
   pub free : List ℕ
   pub falling : List ℕ
+  pub links-image : List ℕ
+  pub full-image : List ℕ
+  pub messages : List ℕ
+  pub moves : ℕ
+  pub look : ℕ
 
--- "link 0-1: labels 1, 2"
+-- "link 0-1: labels 1, 2. Its links image is 01 01 01 00 08 00 04 00 02 00 00 01", "its full bodies are 02 00 00 01, 01 02, 00 01 00 01, 00 FF 00 01; 40 bytes in all"
 abbrev pub link : Worked
 link = record {
   nodes = 2;
@@ -27,6 +32,11 @@ link = record {
   first = 0;
   free = 0 ∷ 1 ∷ 0 ∷ 1 ∷ [];
   falling = 0 ∷ 255 ∷ 0 ∷ 1 ∷ [];
+  links-image = 1 ∷ 1 ∷ 1 ∷ 0 ∷ 8 ∷ 0 ∷ 4 ∷ 0 ∷ 2 ∷ 0 ∷ 0 ∷ 1 ∷ [];
+  full-image = 1 ∷ 4 ∷ 1 ∷ 0 ∷ 26 ∷ 0 ∷ 4 ∷ 0 ∷ 2 ∷ 0 ∷ 30 ∷ 0 ∷ 2 ∷ 0 ∷ 3 ∷ 0 ∷ 32 ∷ 0 ∷ 4 ∷ 0 ∷ 4 ∷ 0 ∷ 36 ∷ 0 ∷ 4 ∷ 0 ∷ 2 ∷ 0 ∷ 0 ∷ 1 ∷ 1 ∷ 2 ∷ 0 ∷ 1 ∷ 0 ∷ 1 ∷ 0 ∷ 255 ∷ 0 ∷ 1 ∷ [];
+  messages = [];
+  moves = 0;
+  look = 0;
 }
 
 -- "triangle: labels 1, 2, 3; T = 3, W = 1"
@@ -41,6 +51,11 @@ triangle = record {
   first = 0;
   free = 0 ∷ 1 ∷ 2 ∷ 0 ∷ 1 ∷ 2 ∷ 0 ∷ 1 ∷ 2 ∷ [];
   falling = 0 ∷ 255 ∷ 255 ∷ 0 ∷ 1 ∷ 255 ∷ 0 ∷ 1 ∷ 2 ∷ [];
+  links-image = [];
+  full-image = [];
+  messages = [];
+  moves = 0;
+  look = 0;
 }
 
 -- "path 0-1-2: labels 1, 2, 3; W = 0"
@@ -55,9 +70,15 @@ path = record {
   first = 0;
   free = 0 ∷ 1 ∷ 1 ∷ 0 ∷ 1 ∷ 2 ∷ 1 ∷ 1 ∷ 2 ∷ [];
   falling = 0 ∷ 255 ∷ 255 ∷ 0 ∷ 1 ∷ 255 ∷ 1 ∷ 1 ∷ 2 ∷ [];
+  links-image = [];
+  full-image = [];
+  messages = [];
+  moves = 0;
+  look = 0;
 }
 
--- the ring 0-1, 0-3, 1-2, 2-3: "labels 1, 2, 3, 4", "its falling rows: 0 - - -; 0 1 - -; 1 1 2 -; 0 2 2 3 (- is 255)", and the free rows that Show prints
+-- the ring 0-1, 0-3, 1-2, 2-3: "labels 1, 2, 3, 4", "its falling rows: 0 - - -; 0 1 - -; 1 1 2 -; 0 2 2 3 (- is 255)", the free rows that Show prints,
+-- and "messages 0→2, 1→3, 2→0, 3→1 on the ring take 12 successful moves. From seed 0 the drain looks at message 2 first."
 abbrev pub ring : Worked
 ring = record {
   nodes = 4;
@@ -69,6 +90,11 @@ ring = record {
   first = 0;
   free = 0 ∷ 1 ∷ 1 ∷ 3 ∷ 0 ∷ 1 ∷ 2 ∷ 2 ∷ 1 ∷ 1 ∷ 2 ∷ 3 ∷ 0 ∷ 2 ∷ 2 ∷ 3 ∷ [];
   falling = 0 ∷ 255 ∷ 255 ∷ 255 ∷ 0 ∷ 1 ∷ 255 ∷ 255 ∷ 1 ∷ 1 ∷ 2 ∷ 255 ∷ 0 ∷ 2 ∷ 2 ∷ 3 ∷ [];
+  links-image = [];
+  full-image = [];
+  messages = 0 ∷ 2 ∷ 1 ∷ 3 ∷ 2 ∷ 0 ∷ 3 ∷ 1 ∷ [];
+  moves = 12;
+  look = 2;
 }
 
 -- "hub 0 with leaves 1, 2, 3: labels 3, 1, 2, 4"
@@ -83,6 +109,11 @@ hub = record {
   first = 1;
   free = 0 ∷ 1 ∷ 2 ∷ 3 ∷ 0 ∷ 1 ∷ 0 ∷ 0 ∷ 0 ∷ 0 ∷ 2 ∷ 0 ∷ 0 ∷ 0 ∷ 0 ∷ 3 ∷ [];
   falling = 0 ∷ 1 ∷ 2 ∷ 255 ∷ 255 ∷ 1 ∷ 255 ∷ 255 ∷ 255 ∷ 255 ∷ 2 ∷ 255 ∷ 0 ∷ 0 ∷ 0 ∷ 3 ∷ [];
+  links-image = [];
+  full-image = [];
+  messages = [];
+  moves = 0;
+  look = 0;
 }
 
 -- "four nodes, all linked: T = 12, W = 4"
@@ -97,6 +128,11 @@ all-four = record {
   first = 0;
   free = 0 ∷ 1 ∷ 2 ∷ 3 ∷ 0 ∷ 1 ∷ 2 ∷ 3 ∷ 0 ∷ 1 ∷ 2 ∷ 3 ∷ 0 ∷ 1 ∷ 2 ∷ 3 ∷ [];
   falling = 0 ∷ 255 ∷ 255 ∷ 255 ∷ 0 ∷ 1 ∷ 255 ∷ 255 ∷ 0 ∷ 1 ∷ 2 ∷ 255 ∷ 0 ∷ 1 ∷ 2 ∷ 3 ∷ [];
+  links-image = [];
+  full-image = [];
+  messages = [];
+  moves = 0;
+  look = 0;
 }
 
 -- nodes 0 and 1 each linked to 2, 3, 4, 5, and four blocks of five: "Node 7 is labelled first"
@@ -111,6 +147,11 @@ blocks = record {
   first = 7;
   free = [];
   falling = [];
+  links-image = [];
+  full-image = [];
+  messages = [];
+  moves = 0;
+  look = 0;
 }
 
 abbrev pub worked : List Worked
