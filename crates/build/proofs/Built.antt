@@ -12,13 +12,12 @@ use Rattle.refusal.specs.declared.Verdict.{Verdict}
 use Rattle.refusal.specs.declared.Verdict.the-variants.{Fine, Fault}
 use Rattle.written.specs.declared.Written.the-variants.{Bytes, NotWritten}
 use Rattle.written.specs.Written.{writtenOf, writtenInto, Writes}
-use Rattle.lines.specs.Lines.{refusalLine}
+use Rattle.lines.specs.Lines.{refusalLine, orRefused}
 use Rattle.format.specs.Contents.{nodesIn, pairsIn}
 use Rattle.image.specs.Image.{imageOf}
 use Rattle.image.specs.Calls.{linksFault}
 use Rattle.image.proofs.Faults.{cabling-good, links-fine}
 use Rattle.image.proofs.Images.{image-size}
-use Rattle.build.specs.Output.{orRefused}
 
 -- a full image that is built is no longer than the buffer
 pub built-short : (b : List ℕ) → linksFault b ≡ Fine → length (imageOf true (nodesIn b) (pairsIn b)) ≤ 9308

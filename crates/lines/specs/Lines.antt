@@ -2,6 +2,8 @@
 use mathlib.Core.List.{List, [], _∷_, _++_}
 use Prim.Native.Nat.{ℕ}
 use Rattle.refusal.specs.declared.Refusal.{Refusal}
+use Rattle.refusal.specs.declared.Verdict.{Verdict}
+use Rattle.refusal.specs.declared.Verdict.the-variants.{Fine, Fault}
 use Rattle.refusal.specs.Number.{numberOf, placeOf}
 use Rattle.text.specs.Text.{decimalOf}
 
@@ -25,3 +27,8 @@ refusedWord = 114 ∷ 101 ∷ 102 ∷ 117 ∷ 115 ∷ 101 ∷ 100 ∷ []
 -- "`refused`, number, place"
 unfoldable pub refusalLine : Refusal → List ℕ
 refusalLine r = lineOf refusedWord (numberOf r ∷ placeOf r ∷ [])
+
+-- "All print only `refused`, number, place on a refusal.": these bytes, or the line of the refusal
+unfoldable pub orRefused : Verdict → List ℕ → List ℕ
+orRefused Fine bytes = bytes
+orRefused (Fault r) bytes = refusalLine r
