@@ -12,7 +12,7 @@ use Rattle.finite.specs.Search.{Some}
 use Rattle.finite.proofs.Truth.{bcase, refute, non-true, true-non, below-lt, below-le}
 use Rattle.finite.proofs.Sum.{sum-term}
 use Rattle.finite.proofs.Search.{find, smallest}
-use Rattle.claims.specs.Claims.{Progress, holds, wanted, CanStep, take, finish, SomeCanStep, Rising, Lawful}
+use Rattle.claims.specs.Claims.{Progress, holds, wanted, CanStep, can-take, can-finish, SomeCanStep, Rising, Lawful}
 use Rattle.claims.proofs.Holding.{Held, holds-held}
 
 module _ (k : ℕ) (itinerary : ℕ → List ℕ) (rank : ℕ → ℕ) (s : Progress) (lawful : Lawful k itinerary s) (rising : Rising k itinerary rank) where
@@ -40,7 +40,7 @@ module _ (k : ℕ) (itinerary : ℕ → List ℕ) (rank : ℕ → ℕ) (s : Prog
       let up = rising c l (h .at) (s .taken c) (h .before) (below-lt _ _ t) in
       let same-rank = ap rank (h .is) in
       absurd (omega arith))
-      (λ t. let a = below-le _ _ t in let b = lawful .within c l in finish (h .not-done) (omega arith))
+      (λ t. let a = below-le _ _ t in let b = lawful .within c l in can-finish (h .not-done) (omega arith))
 
   -- the one that wants the highest can step, or is kept from it by one that can finish
   highest-steps : (m : ℕ) → m < k → s .done m ≡ false → ((c : ℕ) → c < k → s .done c ≡ false → height c ≤ height m) → SomeCanStep k itinerary s
@@ -51,12 +51,12 @@ module _ (k : ℕ) (itinerary : ℕ → List ℕ) (rank : ℕ → ℕ) (s : Prog
       (λ x.
       let h = holds-held itinerary s (x .at) _ (x .fact) in
       record { at = x .at; low = x .low; can = holder-steps m (x .at) (x .low) h (top (x .at) (x .low) (h .not-done)) })
-      (λ none. record { at = m; low = l; can = take d (below-lt _ _ t) none })
+      (λ none. record { at = m; low = l; can = can-take d (below-lt _ _ t) none })
       (find k (λ c. holds itinerary s c (wanted itinerary s m))))
       (λ t.
       let a = below-le _ _ t in
       let b = lawful .within m l in
-      record { at = m; low = l; can = finish d (omega arith) })
+      record { at = m; low = l; can = can-finish d (omega arith) })
 
   -- while some claimant is not done, some claimant can make a step
   pub some-can-step : Some k (λ m. non (s .done m)) → SomeCanStep k itinerary s

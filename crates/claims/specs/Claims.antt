@@ -27,9 +27,9 @@ wanted itinerary s m = getD (itinerary m) (s .taken m) 0
 
 -- the steps that can be made: take the next resource when nobody holds it, or be done when there is none to take
 pub data CanStep (k : ℕ) (itinerary : ℕ → List ℕ) (s : Progress) (m : ℕ) : Type 0 where
-  take : s .done m ≡ false → s .taken m < length (itinerary m)
+  can-take : s .done m ≡ false → s .taken m < length (itinerary m)
       → ((c : ℕ) → c < k → holds itinerary s c (wanted itinerary s m) ≡ false) → CanStep k itinerary s m
-  finish : s .done m ≡ false → s .taken m ≡ length (itinerary m) → CanStep k itinerary s m
+  can-finish : s .done m ≡ false → s .taken m ≡ length (itinerary m) → CanStep k itinerary s m
 
 -- some claimant can make a step
 pub record SomeCanStep (k : ℕ) (itinerary : ℕ → List ℕ) (s : Progress) : Type 0 where

@@ -115,7 +115,7 @@ module _ (n : ℕ) (pairs : List ℕ) (g : Good n pairs) where
   image-accepted true =
       sym (full-fine _ full-kinds (read-cabling true)) ∙ sym (tables-fine _ (eq-alike (sym (ap₂ (imageOf true) (read-nodes true) (read-pairs true)))))
 
-  -- "Reading a written image gives back its cabling and its kind, both kinds"
+  -- reading a written image gives back its cabling and its kind, both kinds
   pub read-back : (full : Bool) → let b = imageOf full n pairs in (imageFault b ≡ Fine) × (nodesIn b ≡ n) × (pairsIn b ≡ pairs) × (inOrder b fullKinds ≡ full)
   read-back full = (image-accepted full, read-nodes full, read-pairs full, read-kind full)
 
@@ -141,7 +141,7 @@ module _ (n : ℕ) (pairs : List ℕ) (g : Good n pairs) where
   pub build-bytes : imageOf true (nodesIn (imageOf false n pairs)) (pairsIn (imageOf false n pairs)) ≡ imageOf true n pairs
   build-bytes = ap₂ (imageOf true) (read-nodes false) (read-pairs false)
 
-  -- "The full image that build writes is the one that write writes": the same answer and the same buffer
+  -- the full image that build writes is the one that write writes: the same answer and the same buffer
   pub build-as-write : {before after : List ℕ} {r : Written} → let b = imageOf false n pairs in
       Writes (linksFault b) (imageOf true (nodesIn b) (pairsIn b)) before r after ↔ Writes (faultOf n pairs) (imageOf true n pairs) before r after
   build-as-write {before} {after} {r} =
@@ -176,7 +176,7 @@ accepted-good b h =
     bcase (inOrder b fullKinds) (λ t. cabling-good b (and-then-fine _ _ (full-checks b t ∙ h) .0) .0)
     (λ t. cabling-good b (links-fine b (not-full b t ∙ h)) .0)
 
--- "Writing what was read gives back the same bytes", and what was read is a good cabling
+-- writing what was read gives back the same bytes, and what was read is a good cabling
 pub accepted : (b : List ℕ) → Bytes b → imageFault b ≡ Fine → (b ≡ imageOf (inOrder b fullKinds) (nodesIn b) (pairsIn b)) × Good (nodesIn b) (pairsIn b)
 accepted b byte h =
     bcase (inOrder b fullKinds)

@@ -3,3 +3,4 @@ pub mod Assembled
 pub mod Reading
 pub mod Tight
 pub mod Images
+pub mod Meaning

@@ -11,7 +11,7 @@ use Rattle.finite.specs.Search.{Some}
 use Rattle.finite.proofs.Truth.{no-tf, bcase, non-false, same-eq, same-ne, eq-same, below-lt, below-le}
 use Rattle.finite.proofs.Sum.{when-true, when-false}
 use Rattle.finite.proofs.Search.{find}
-use Rattle.claims.specs.Claims.{Progress, CanStep, take, finish}
+use Rattle.claims.specs.Claims.{Progress, CanStep, can-take, can-finish}
 use Rattle.claims.proofs.Waiting.{some-can-step}
 use Rattle.claims.proofs.Counting.{made-le, made-whole, all-free}
 use Rattle.machine.specs.declared.Record.{Record}
@@ -38,12 +38,12 @@ module _ {n : ℕ} {edge : ℕ → ℕ → Bool} {labels free falling list : Lis
   can-succeed : {r : Record} {s : Progress} (state : State n edge labels free falling list r s) (m : ℕ) → m < k → {x : Stepped} → Case r m x
       → CanStep k itinerary s m → successful (x .answer) ≡ true
   can-succeed state m low (unknown t) c = let h = unknown-high fabric listed state m t in absurd (omega arith)
-  can-succeed state m low (already l u) (take f b h) = no-tf (sym (state .says .done m low) ∙ u) f
-  can-succeed state m low (already l u) (finish f e) = no-tf (sym (state .says .done m low) ∙ u) f
+  can-succeed state m low (already l u) (can-take f b h) = no-tf (sym (state .says .done m low) ∙ u) f
+  can-succeed state m low (already l u) (can-finish f e) = no-tf (sym (state .says .done m low) ∙ u) f
   can-succeed state m low (arrives l u e) c = refl
-  can-succeed state m low (waits l u d h) (take f b none) =
+  can-succeed state m low (waits l u d h) (can-take f b none) =
       let i = holder-low fabric listed state m h in no-tf (holder-holds fabric listed state m low d _ i (omega arith)) (none _ i)
-  can-succeed state m low (waits l u d h) (finish f e) = let b = more-to-take fabric listed state m low d in absurd (omega arith)
+  can-succeed state m low (waits l u d h) (can-finish f e) = let b = more-to-take fabric listed state m low d in absurd (omega arith)
   can-succeed state m low (moves l u d h) c = refl
 
   module _ {r : Record} (run : Reached n labels free falling list r) where

@@ -1,0 +1,22 @@
+-- What each verdict on a message list says: 01's rows 10 and 11, in 01's order.
+use mathlib.Core.Path.{_≡_}
+use mathlib.Core.List.{List}
+use mathlib.Core.Logic.{_⊎_}
+use Prim.Native.Nat.{ℕ, _/_, _%_, _≤_, _<_}
+use lib.ListN.{length}
+use Rattle.refusal.specs.declared.Refusal.the-variants.{Unknown, Messages}
+use Rattle.refusal.specs.declared.Verdict.{Verdict}
+use Rattle.refusal.specs.declared.Verdict.the-variants.{Fine, Fault}
+use Rattle.machine.specs.Fresh.{sourceIn, targetIn}
+
+-- both ends of pair p are nodes
+abbrev pub BothNodes : ℕ → List ℕ → ℕ → Type 0
+BothNodes n list p = (sourceIn list p < n) × (targetIn list p < n)
+
+-- 11: "message list odd or over 512 bytes"; 10: "a node ≥ N in the list", at the first such pair
+pub data OfList (n : ℕ) (list : List ℕ) : Verdict → Type 0 where
+  odd : (length list % 2 ≡ 0 → ⊥) → OfList n list (Fault Messages)
+  over : 512 < length list → OfList n list (Fault Messages)
+  unknown : (p : ℕ) → length list % 2 ≡ 0 → length list ≤ 512 → p < length list / 2 → (n ≤ sourceIn list p) ⊎ (n ≤ targetIn list p)
+      → ((q : ℕ) → q < p → BothNodes n list q) → OfList n list (Fault (Unknown p))
+  fine : length list % 2 ≡ 0 → length list ≤ 512 → ((p : ℕ) → p < length list / 2 → BothNodes n list p) → OfList n list Fine
