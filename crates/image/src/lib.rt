@@ -114,9 +114,9 @@ fn tables_fault(image: &[u8]) -> Verdict
     ensures { λ r. ⌜ r ≡ tablesFault (now (image .entry)) ⌝ }
 {
     let g = full_bytes(format::nodes_in(image), format::pairs_in(image));
-    let bytes = g.bytes;
-    let len = g.len;
-    if written::same_bytes(image, &bytes[..len]) {
+    let given = g.bytes;
+    let size = g.len;
+    if written::same_bytes(image, &given[..size]) {
         Verdict::Fine
     } else {
         Verdict::Fault(Refusal::Differs)

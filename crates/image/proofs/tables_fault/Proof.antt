@@ -25,8 +25,8 @@ full-bytes-requires c κs =
     let g = cabling-good _ (s .pre) .0 in
     (rw (c .before .nodes-in .ensures) (g .few), rw (c .pairs-in .ensures) (g .short))
 
-array-share-prefix-bytes : tie.Need-array-share-prefix-bytes
-array-share-prefix-bytes c = search needs
+array-share-prefix-given : tie.Need-array-share-prefix-given
+array-share-prefix-given c = search needs
 
 slice-aggregate-same-bytes : tie.Need-slice-aggregate-same-bytes
 slice-aggregate-same-bytes c = let h = c .before .before .full-bytes .ensures in h .len-is ∙ sym (ap length (h .content-is))
@@ -56,7 +56,7 @@ tables-fault-spec =
     nodes-in-requires
     pairs-in-requires
     full-bytes-requires
-    array-share-prefix-bytes
+    array-share-prefix-given
     slice-aggregate-same-bytes
     same-bytes-requires
     returns
