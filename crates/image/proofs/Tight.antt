@@ -8,7 +8,7 @@ use Rattle.written.specs.Written.{Writes}
 use Rattle.image.specs.Calls.{Reads}
 use Rattle.image.specs.declared.Outcome.{Outcome}
 
--- write, build and route
+-- write and build
 pub writes-unique : {v : Verdict} {bytes before : List ℕ} {r s : Written} {l m : List ℕ} → Writes v bytes before r l → Writes v bytes before s m → (r ≡ s) × (l ≡ m)
 writes-unique x y = (x .answers ∙ sym (y .answers), x .leaves ∙ sym (y .leaves))
 

@@ -1,24 +1,22 @@
--- What read, write, build and route answer, and what they leave in the lent buffer. The order of refusals: 1, 2, 3; then the first bad pair; 6, 7, 8, 10, 9.
+-- What read, write and build answer, and what they leave in the lent buffer. The order of refusals: 1, 2, 3; then the first bad pair; 6, 7, 8, 9.
 use mathlib.Core.Path.{_≡_}
 use mathlib.Core.Bool.{Bool, true, false}
-use mathlib.Core.List.{List, [], _∷_}
+use mathlib.Core.List.{List}
 use Prim.Native.Nat.{ℕ, _/_}
 use lib.Dec.{leb}
 use lib.ListN.{length}
-use Rattle.finite.specs.Truth.{_&_, same, below}
+use Rattle.finite.specs.Truth.{_&_, same}
 use Rattle.finite.specs.Lists.{alike}
 use Rattle.nodes.specs.Limits.{maxNodes}
-use Rattle.refusal.specs.declared.Refusal.the-variants.{Contents, Count, Shape, Differs, Unknown}
+use Rattle.refusal.specs.declared.Refusal.the-variants.{Contents, Count, Shape, Differs}
 use Rattle.refusal.specs.declared.Verdict.{Verdict}
 use Rattle.refusal.specs.declared.Verdict.the-variants.{Fine, Fault}
-use Rattle.cabling.specs.Cabling.{links}
 use Rattle.cabling.specs.Faults.{faultOf}
-use Rattle.lawful.specs.Entry.{routeOf}
 use Rattle.format.specs.Contents.{inOrder, linksKinds, fullKinds, nodesIn, zeroIn, pairsIn}
 use Rattle.written.specs.declared.Written.{Written}
 use Rattle.written.specs.declared.Written.the-variants.{Bytes, NotWritten}
 use Rattle.written.specs.Written.{writtenOf, writtenInto}
-use Rattle.image.specs.Image.{labelOf, imageOf}
+use Rattle.image.specs.Image.{imageOf}
 use Rattle.image.specs.declared.Outcome.{Outcome}
 use Rattle.image.specs.declared.Outcome.the-variants.{Read, NotRead}
 
@@ -54,13 +52,3 @@ outcomeOf b (NotWritten r) = NotRead r
 pub record Reads (b before : List ℕ) (answer : Outcome) (after : List ℕ) : Type 0 where
   pub answers : answer ≡ outcomeOf b (writtenOf (imageFault b) (pairsIn b) (length before))
   pub leaves : after ≡ writtenInto (imageFault b) (pairsIn b) before
-
--- the route call: 10 for a node ≥ N, and the nodes of the route, "source first"
-unfoldable pub endsFault : List ℕ → ℕ → ℕ → Verdict
-endsFault b s t = elim (below s (nodesIn b) & below t (nodesIn b)) [ true ↦ Fine | false ↦ Fault (Unknown 0) ]
-
-abbrev pub routeFault : List ℕ → ℕ → ℕ → Verdict
-routeFault b s t = andThen (imageFault b) (endsFault b s t)
-
-abbrev pub routeBytes : List ℕ → ℕ → ℕ → List ℕ
-routeBytes b s t = s ∷ routeOf maxNodes (links (pairsIn b)) (labelOf (nodesIn b) (pairsIn b)) s t

@@ -1,4 +1,4 @@
-// The calls on images: read, write, build, route. Each checks in 01's order, and writes its result whole or not at all.
+// The calls on images: read, write, build. Each checks in 01's order, and writes its result whole or not at all.
 ghost use mathlib.Core.Path.{_≡_};
 ghost use mathlib.Core.Bool.{Bool, true, false};
 ghost use Prim.Native.Nat.{_≤_};
@@ -11,7 +11,7 @@ ghost use Rattle.grown.specs.Grown.{appended, content};
 ghost use Rattle.grown.specs.Holds.{Holds, Held};
 ghost use Rattle.written.specs.Written.{Writes};
 ghost use Rattle.image.specs.Image.{entryBytes, fullFront, imageOf};
-ghost use Rattle.image.specs.Calls.{cablingFault, tablesFault, linksFault, imageFault, Reads, routeFault, routeBytes};
+ghost use Rattle.image.specs.Calls.{cablingFault, tablesFault, linksFault, imageFault, Reads};
 use grown::Grown;
 use nodes::MAX_NODES;
 use refusal::Refusal;

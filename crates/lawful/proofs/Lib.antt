@@ -7,3 +7,4 @@ pub mod Entries
 pub mod Routes
 pub mod Rank
 pub mod Local
+pub mod Few

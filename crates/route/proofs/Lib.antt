@@ -1,0 +1,4 @@
+pub mod Following
+pub mod Cabled
+pub mod Meaning
+pub mod Tight

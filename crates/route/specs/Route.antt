@@ -1,0 +1,26 @@
+-- The route call: what it refuses, and what it writes. The order of refusals: 1 to 8, as read's, then 10, and 9 at the last.
+use mathlib.Core.Bool.{true, false}
+use mathlib.Core.List.{List, _∷_}
+use Prim.Native.Nat.{ℕ}
+use Rattle.finite.specs.Truth.{_&_, below}
+use Rattle.nodes.specs.Limits.{maxNodes}
+use Rattle.refusal.specs.declared.Refusal.the-variants.{Unknown}
+use Rattle.refusal.specs.declared.Verdict.{Verdict}
+use Rattle.refusal.specs.declared.Verdict.the-variants.{Fine, Fault}
+use Rattle.cabling.specs.Cabling.{links}
+use Rattle.lawful.specs.Entry.{routeOf}
+use Rattle.format.specs.Contents.{nodesIn, pairsIn}
+use Rattle.image.specs.Image.{labelOf}
+use Rattle.image.specs.Calls.{andThen, imageFault}
+
+-- 10: "Route: a node ≥ N", at place 0
+unfoldable pub endsFault : List ℕ → ℕ → ℕ → Verdict
+endsFault b s t = elim (below s (nodesIn b) & below t (nodesIn b)) [ true ↦ Fine | false ↦ Fault (Unknown 0) ]
+
+-- the route call "takes either image, a source and a destination"
+abbrev pub routeFault : List ℕ → ℕ → ℕ → Verdict
+routeFault b s t = andThen (imageFault b) (endsFault b s t)
+
+-- and "writes hops + 1 node numbers, source first"
+abbrev pub routeBytes : List ℕ → ℕ → ℕ → List ℕ
+routeBytes b s t = s ∷ routeOf maxNodes (links (pairsIn b)) (labelOf (nodesIn b) (pairsIn b)) s t
