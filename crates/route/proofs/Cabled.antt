@@ -1,15 +1,16 @@
 -- The tables of a good cabling lead along its routes.
-use mathlib.Core.Path.{_≡_, refl, sym, _∙_, ap}
+use mathlib.Core.Path.{_≡_, sym, _∙_, ap, ap₂}
 use mathlib.Core.Bool.{Bool, true, false}
 use mathlib.Core.List.{List, _∷_}
-use Prim.Native.Nat.{ℕ, _<_}
+use Prim.Native.Nat.{ℕ, _<_, min}
 use native.Mathlib.Omega.{arith}
 use Rattle.finite.specs.Truth.{_&_, below}
 use Rattle.nodes.specs.Limits.{maxNodes}
+use Rattle.network.specs.Table.{edgeOf, tableOf}
 use Rattle.network.proofs.Meaning.{pairs-network}
 use Rattle.cabling.specs.Cabling.{Good, links}
 use Rattle.cabling.proofs.Joined.{good-network}
-use Rattle.rule.specs.Labels.{labelsOf}
+use Rattle.rule.specs.Labels.{labelIn, labelsOf}
 use Rattle.rule.proofs.Climb.{labels-climbing}
 use Rattle.lawful.specs.Turn.{rises, Climbing}
 use Rattle.lawful.specs.Entry.{entry, after, routeOf}
@@ -21,6 +22,7 @@ use Rattle.rows.specs.Tables.{tablesOf}
 use Rattle.rows.proofs.Grid.{padded-at}
 use Rattle.rows.proofs.Meaning.{rows-at}
 use Rattle.image.specs.Image.{labelOf}
+use Rattle.image.proofs.Assembled.{labels-are, tables-are}
 use Rattle.route.specs.Follow.{stored, anywhere, mostHops, followed}
 
 module _ {n : ℕ} {pairs : List ℕ} (g : Good n pairs) where
@@ -44,7 +46,7 @@ module _ {n : ℕ} {pairs : List ℕ} (g : Good n pairs) where
   unfolding after rises
   after-neighbour c v u e = ap (λ (b : Bool). c & b & below (labelOf n pairs v) (labelOf n pairs u)) e
 
-  pub follows : (s t : ℕ) → s < n → t < n
+  follows : (s t : ℕ) → s < n → t < n
       → followed (labelsOf maxNodes (links pairs) n) (tables .free) (tables .falling) n s t ≡ s ∷ routeOf maxNodes (links pairs) (labelOf n pairs) s t
   unfolding followed routeOf
   follows s t a b =
@@ -60,3 +62,11 @@ module _ {n : ℕ} {pairs : List ℕ} (g : Good n pairs) where
       let e = hop-edge (step .first) in
       (sym (stored-entry t c v (p .0) b), after-neighbour c v _ e, (net .inside _ _ e, _, step .run)))
       mostHops true s (a, way .0, way .1)))
+
+  -- and so do labels and tables that are made for it
+  pub made-follows : (t l : List ℕ) (r : Tables) (s d : ℕ) → t ≡ tableOf pairs → l ≡ labelsOf maxNodes (edgeOf t) (min n maxNodes)
+      → r ≡ tablesOf (min n maxNodes) (edgeOf t) (labelIn l) → s < n → d < n
+      → followed l (r .free) (r .falling) n s d ≡ s ∷ routeOf maxNodes (links pairs) (labelOf n pairs) s d
+  made-follows t l r s d et el er a b =
+      ap₂ (λ (x : List ℕ) (y : Tables). followed x (y .free) (y .falling) n s d) (labels-are n pairs t l r (g .few) et el er) (tables-are n pairs t l r (g .few) et el er)
+      ∙ follows s d a b

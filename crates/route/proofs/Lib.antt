@@ -1,3 +1,5 @@
+pub mod Cases
+pub mod Hop
 pub mod Following
 pub mod Cabled
 pub mod Meaning

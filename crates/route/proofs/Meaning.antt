@@ -1,20 +1,13 @@
 -- What route writes in 01's words: "hops + 1 node numbers, source first", the nodes of a shortest lawful path. N bytes are room enough.
-use mathlib.Core.Path.{_≡_, refl, sym, _∙_, ap}
-use mathlib.Core.Bool.{Bool, true, false}
+use mathlib.Core.Path.{_≡_, _∙_, ap}
 use mathlib.Core.List.{List, [], _∷_}
-use mathlib.Core.Logic.{_⊎_, inl, inr}
 use Prim.Native.Nat.{ℕ, _+_, _≤_, _<_}
 use native.Mathlib.Omega.{arith}
 use lib.ListN.{length}
 use borrow.Author.Tests.{le-leb}
-use Rattle.finite.specs.Truth.{_&_, below}
-use Rattle.finite.proofs.Truth.{no-tf, refute, both, and-l, and-r, lt-below, le-below}
 use Rattle.nodes.specs.Limits.{maxNodes}
 use Rattle.network.proofs.Meaning.{pairs-network}
-use Rattle.refusal.specs.declared.Refusal.{Refusal}
-use Rattle.refusal.specs.declared.Refusal.the-variants.{Unknown}
-use Rattle.refusal.specs.declared.Verdict.{Verdict}
-use Rattle.refusal.specs.declared.Verdict.the-variants.{Fine, Fault}
+use Rattle.refusal.specs.declared.Verdict.the-variants.{Fine}
 use Rattle.cabling.specs.Cabling.{Good, links}
 use Rattle.cabling.proofs.Joined.{good-network}
 use Rattle.lawful.specs.Path.{LawfulTo, Shortest}
@@ -27,28 +20,11 @@ use Rattle.written.specs.declared.Written.{Written}
 use Rattle.written.specs.declared.Written.the-variants.{Bytes}
 use Rattle.written.specs.Written.{placed, writtenOf, writtenInto, Writes}
 use Rattle.image.specs.Image.{labelOf}
-use Rattle.image.specs.Calls.{andThen, imageFault}
+use Rattle.image.specs.Calls.{imageFault}
 use Rattle.image.proofs.Images.{accepted-good}
-use Rattle.route.specs.Route.{endsFault, routeFault, routeBytes}
+use Rattle.route.specs.Route.{routeFault, routeBytes}
+use Rattle.route.proofs.Cases.{not-refused}
 use Rattle.route.proofs.Cabled.{good-climbing}
-
--- ---- what is refused
-
-module _ (b : List ℕ) (s t : ℕ) where
-  pub image-refused : {r : Refusal} → imageFault b ≡ Fault r → routeFault b s t ≡ Fault r
-  unfolding andThen
-  image-refused e = rw e
-
-  pub ends-refused : imageFault b ≡ Fine → (nodesIn b ≤ s) ⊎ (nodesIn b ≤ t) → routeFault b s t ≡ Fault (Unknown 0)
-  unfolding andThen endsFault
-  ends-refused e (inl h) = rw (e, refute (below s (nodesIn b) & below t (nodesIn b)) (λ y. no-tf (and-l _ _ y) (le-below h)), endsFault)
-  ends-refused e (inr h) = rw (e, refute (below s (nodesIn b) & below t (nodesIn b)) (λ y. no-tf (and-r _ _ y) (le-below h)), endsFault)
-
-  pub not-refused : imageFault b ≡ Fine → s < nodesIn b → t < nodesIn b → routeFault b s t ≡ Fine
-  unfolding andThen endsFault
-  not-refused e k l = rw (e, both (lt-below k) (lt-below l), endsFault)
-
--- ---- what is written
 
 module _ {n : ℕ} {pairs : List ℕ} (g : Good n pairs) (s t : ℕ) (a : s < n) (z : t < n) where
   -- "Its route follows these entries and has the shortest lawful length"
@@ -75,8 +51,7 @@ route-writes b s t {before} e k l room w =
     let g = accepted-good b e in
     let short = good-room g s t k l in
     let fits : length (routeBytes b s t) ≤ length before = omega arith in
-    let fine = not-refused b s t e k l in
-    (
+    let fine = not-refused b s t e k l in (
       _,
       good-route g s t k l,
       w .answers ∙ rw (fine, le-leb _ _ fits, writtenOf) (ap Bytes (omega arith)),

@@ -2,7 +2,6 @@
 ghost use mathlib.Core.Path.{_≡_};
 ghost use Prim.Native.Nat.{_≤_, _<_};
 ghost use mathlib.Core.List.{_∷_};
-ghost use lib.ListN.{getD};
 ghost use Rattle.nodes.specs.Limits.{maxNodes};
 ghost use Rattle.cabling.specs.Cabling.{Good, links};
 ghost use Rattle.rule.specs.Labels.{labelIn};
@@ -21,13 +20,6 @@ use written::Written;
 // No route has more hops.
 const MOST_HOPS: usize = MAX_NODES + MAX_NODES;
 
-// The byte at place i, 0 past the end.
-fn byte(s: &[u8], i: usize) -> u8
-    ensures { λ r. ⌜ r ≡ getD (now (s .entry)) i 0 ⌝ }
-{
-    if i < s.len() { s[i] } else { 0 }
-}
-
 // The node after v on the way to t, from the table of the message's class.
 fn next(free: &[u8], falling: &[u8], n: usize, t: u8, class: bool, v: u8) -> u8
     requires { ⌜ n ≤ maxNodes ⌝ }
@@ -35,9 +27,9 @@ fn next(free: &[u8], falling: &[u8], n: usize, t: u8, class: bool, v: u8) -> u8
 {
     let at = (v as usize) * n + (t as usize);
     if class {
-        byte(free, at)
+        network::byte_at(free, at) as u8
     } else {
-        byte(falling, at)
+        network::byte_at(falling, at) as u8
     }
 }
 
@@ -46,7 +38,7 @@ fn stays_free(labels: &[u8], class: bool, v: u8, u: u8) -> bool
     ensures { λ r. ⌜ r ≡ after anywhere (labelIn (now (labels .entry))) class v u ⌝ }
 {
     if class {
-        byte(labels, v as usize) < byte(labels, u as usize)
+        network::byte_at(labels, v as usize) < network::byte_at(labels, u as usize)
     } else {
         false
     }
