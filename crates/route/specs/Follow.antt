@@ -15,7 +15,7 @@ stored free falling n t class v = elim class [ true ↦ getD free (v * n + t) 0 
 abbrev pub anywhere : ℕ → ℕ → Bool
 anywhere a b = true
 
--- no route has more hops
+-- for so many hops a route is followed at the most; it has fewer than N (lawful, proofs/Few.antt)
 abbrev pub mostHops : ℕ
 mostHops = maxNodes + maxNodes
 

@@ -17,10 +17,10 @@ use refusal::Refusal;
 use refusal::Verdict;
 use written::Written;
 
-// No route has more hops.
+// A route is followed for so many hops at the most; it has fewer than N.
 const MOST_HOPS: usize = MAX_NODES + MAX_NODES;
 
-// The node after v on the way to t, from the table of the message's class.
+// The node after v on the way to t, from the table of the message's class: true while it is free.
 fn next(free: &[u8], falling: &[u8], n: usize, t: u8, class: bool, v: u8) -> u8
     requires { ⌜ n ≤ maxNodes ⌝ }
     ensures { λ r. ⌜ r ≡ stored (now (free .entry)) (now (falling .entry)) n t class v ⌝ }

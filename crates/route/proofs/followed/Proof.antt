@@ -49,7 +49,7 @@ loop-again c =
     let hop = c .before .before in
     let on = hop .before .before in
     let i = on .before .loop .inv in (
-      following-more _ _ _ _ (i .0) (hop .before .if1 .left) (on .loop-test .taken) (lit≤ tt) (hop .next .ensures) (c .before .stays-free .ensures) (c .byte2 .ensures),
+      following-more _ _ _ _ (i .0) (hop .before .if1 .left) (omega arith) (lit≤ tt) (hop .next .ensures) (c .before .stays-free .ensures) (c .byte2 .ensures),
       omega arith,
     )
 
