@@ -1,12 +1,11 @@
 -- The loop along the entries: what is held, and the nodes that are still to come behind it, are the whole route.
 use mathlib.Core.Path.{_≡_, refl, sym, _∙_, ap}
-use mathlib.Core.Bool.{Bool, true, false}
+use mathlib.Core.Bool.{Bool, true}
 use mathlib.Core.List.{List, [], _∷_, _++_, append-assoc, append-nil}
 use Prim.Native.Nat.{ℕ, zero, suc, _+_, _≤_, _<_}
 use native.Mathlib.Nat.{le-refl}
 use native.Mathlib.Omega.{arith}
 use lib.Dec.{lit≤}
-use lib.ListN.{length}
 use Rattle.lawful.specs.Entry.{after, follow}
 use Rattle.lawful.proofs.Routes.{follow-here, follow-there}
 use Rattle.grown.specs.declared.Grown.{Grown}

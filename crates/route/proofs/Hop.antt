@@ -1,10 +1,10 @@
 -- One hop: the table of the class holds the entry, and the labels decide the class after it.
-use mathlib.Core.Path.{_≡_, refl, sym, _∙_, ap₂}
+use mathlib.Core.Path.{_≡_, _∙_}
 use mathlib.Core.Bool.{Bool, true, false}
 use mathlib.Core.List.{List}
 use Prim.Native.Nat.{ℕ, _+_, _*_}
 use lib.ListN.{getD}
-use Rattle.finite.specs.Truth.{_&_, below}
+use Rattle.finite.specs.Truth.{below}
 use Rattle.finite.proofs.Truth.{and-true, and-false}
 use Rattle.lawful.specs.Turn.{rises}
 use Rattle.lawful.specs.Entry.{after}

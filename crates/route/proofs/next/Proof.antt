@@ -1,6 +1,6 @@
 -- `route::next` meets its contract: a byte times at most 64, and a byte, is a small number, and the class picks the table.
-use mathlib.Core.Path.{_≡_, sym, _∙_}
-use Prim.Native.Nat.{ℕ, _+_, _*_, _≤_}
+use mathlib.Core.Path.{sym, _∙_}
+use Prim.Native.Nat.{_+_, _*_, _≤_}
 use native.Mathlib.Nat.{mul-le-mul}
 use native.Mathlib.Omega.{arith}
 use Rattle.route.proofs.Hop.{stored-free, stored-falling}

@@ -1,6 +1,5 @@
 -- `route::route_bytes` meets its contract: labels and tables are those of the cabling, and lead along its route.
 use native.Mathlib.Nat.{le-refl}
-use native.Mathlib.Omega.{arith}
 use Rattle.grown.proofs.Behind.{holds-as}
 use Rattle.route.proofs.Cabled.{made-follows}
 use borrow.Author.Needs.{needs}

@@ -1,5 +1,5 @@
 -- `route::stays_free` meets its contract: once falling, always falling; before that the labels decide.
-use mathlib.Core.Path.{_≡_, sym, _∙_, ap₂}
+use mathlib.Core.Path.{sym, _∙_, ap₂}
 use Rattle.finite.specs.Truth.{below}
 use Rattle.route.proofs.Hop.{after-free, after-falling}
 use borrow.Author.Needs.{needs}
