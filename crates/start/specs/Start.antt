@@ -54,5 +54,9 @@ unfoldable pub recordAfter : Verdict → Record → Record → Record
 recordAfter Fine old new = new
 recordAfter (Fault r) old new = old
 
+-- a verdict beside a record
+abbrev pub beside : Verdict → Record → Started
+beside verdict r = record { verdict = verdict; «record» = r }
+
 unfoldable pub startOf : Record → List ℕ → List ℕ → Started
-startOf old b list = record { verdict = startFault b list; «record» = recordAfter (startFault b list) old (freshOf b list) }
+startOf old b list = beside (startFault b list) (recordAfter (startFault b list) old (freshOf b list))

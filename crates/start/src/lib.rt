@@ -12,8 +12,8 @@ use refusal::Verdict;
 
 // What start answers: the verdict, and the record: fresh, or as it was where the call is refused.
 pub struct Started {
-    verdict: Verdict,
-    record: Record,
+    pub verdict: Verdict,
+    pub record: Record,
 }
 
 // The bytes that the list of 256 messages has.

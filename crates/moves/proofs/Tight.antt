@@ -1,0 +1,27 @@
+-- Any two outcomes that a promise allows are equal: the answer, and the record afterwards.
+use mathlib.Core.Path.{_≡_, ap}
+use mathlib.Core.List.{List}
+use Prim.Native.Nat.{ℕ}
+use Rattle.refusal.specs.declared.Verdict.{Verdict}
+use Rattle.machine.specs.declared.Record.{Record}
+use Rattle.machine.specs.declared.Answer.{Answer}
+use Rattle.machine.specs.declared.Stepped.{Stepped}
+use Rattle.machine.specs.Step.{with, stepOf}
+use Rattle.machine.proofs.Tight.{step-tight}
+use Rattle.start.specs.declared.Started.{Started}
+use Rattle.start.specs.Start.{beside, startOf}
+use Rattle.start.proofs.Tight as by-value
+
+pub advance-tight : (old : Record) (m : ℕ) (a a′ : Answer) (r r′ : Record) → with r a ≡ stepOf old m → with r′ a′ ≡ stepOf old m → (a ≡ a′) × (r ≡ r′)
+advance-tight old m a a′ r r′ = step-tight old m (with r a) (with r′ a′)
+
+pub moved-tight : (old : Record) (m : ℕ) (x y : Stepped) → x ≡ stepOf old m → y ≡ stepOf old m → (x .answer ≡ y .answer) × (x .«record» ≡ y .«record»)
+moved-tight = step-tight
+
+pub start-tight : (old : Record) (b list : List ℕ) (v v′ : Verdict) (r r′ : Record) → beside v r ≡ startOf old b list → beside v′ r′ ≡ startOf old b list → (v ≡ v′) × (r ≡ r′)
+start-tight old b list v v′ r r′ e f =
+    let same = by-value.start-tight old b list (beside v r) (beside v′ r′) e f in
+    (ap (λ (s : Started). s .verdict) same, ap (λ (s : Started). s .«record») same)
+
+pub started-tight : (old : Record) (b list : List ℕ) (x y : Started) → x ≡ startOf old b list → y ≡ startOf old b list → x ≡ y
+started-tight = by-value.start-tight
