@@ -11,4 +11,5 @@ pub mod After
 pub mod Reached
 pub mod Drain
 pub mod Answers
+pub mod Ready
 pub mod Tight

@@ -3,3 +3,4 @@ pub mod Step
 pub mod Fresh
 pub mod Runs
 pub mod Tells
+pub mod Ready

@@ -6,6 +6,7 @@ ghost use Rattle.finite.specs.Lists.{tabulate};
 ghost use Rattle.machine.specs.Sizes.{maxMessages};
 ghost use Rattle.machine.specs.Step.{head, holder, counted, moved, arrived, refusedOf, stepOf};
 ghost use Rattle.machine.specs.Fresh.{begunOf};
+ghost use Rattle.machine.specs.Ready.{ready, allDelivered};
 
 mod ahead; // ahead.rt: where a message is, and what is ahead of it
 mod arrays; // arrays.rt: reads and stores in the record's arrays
@@ -163,8 +164,34 @@ fn ends(list: &[u8], first: usize) -> [u8; MAX_MESSAGES]
     nodes
 }
 
+// Is a message undelivered and unblocked? For a message that is there: does a move of it succeed?
+pub fn is_ready(record: Record, message: usize) -> bool
+    ensures { λ r. ⌜ r ≡ ready «record» message ⌝ }
+{
+    if ahead::is_delivered(record, message) {
+        return false;
+    }
+    if ahead::is_there(record, message) {
+        return true;
+    }
+    ahead::next_holder(record, message) == 0
+}
+
+// Is every message delivered?
+pub fn all_delivered(record: Record) -> bool
+    ensures { λ r. ⌜ r ≡ allDelivered «record» ⌝ }
+{
+    let messages = few(record.messages);
+    for m in 0..messages {
+        if !ahead::is_delivered(record, m) {
+            return false;
+        }
+    }
+    true
+}
+
 // At most 256 messages.
-fn few(n: usize) -> usize
+pub fn few(n: usize) -> usize
     ensures { λ r. ⌜ r ≡ min n maxMessages ⌝ }
 {
     if n < MAX_MESSAGES { n } else { MAX_MESSAGES }
