@@ -150,7 +150,7 @@ module _ (n : ℕ) (pairs : List ℕ) (g : Good n pairs) where
 
 -- ---- only such images are accepted
 
-and-then-fine : (v w : Verdict) → andThen v w ≡ Fine → (v ≡ Fine) × (w ≡ Fine)
+pub and-then-fine : (v w : Verdict) → andThen v w ≡ Fine → (v ≡ Fine) × (w ≡ Fine)
 unfolding andThen
 and-then-fine Fine w h = (refl, h)
 and-then-fine (Fault r) w h = absurd (fault-not-fine h)
