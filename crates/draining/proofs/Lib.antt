@@ -1,0 +1,6 @@
+pub mod Chosen
+pub mod Turns
+pub mod Answers
+pub mod Running
+pub mod Meaning
+pub mod Tight

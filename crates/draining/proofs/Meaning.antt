@@ -1,0 +1,74 @@
+-- What a drain comes to, whatever its seed: it takes exactly as many turns as the sum of (shortest lawful hops + 1), which it counts; then every message is
+-- delivered and every channel is free.
+use mathlib.Core.Path.{_≡_}
+use mathlib.Core.Bool.{true, false}
+use mathlib.Core.List.{List}
+use mathlib.Core.Logic.{_↔_}
+use Prim.Native.Nat.{ℕ, _≤_, _<_}
+use native.Mathlib.Nat.{le-refl}
+use native.Mathlib.Omega.{arith}
+use Rattle.refusal.specs.declared.Verdict.the-variants.{Fine}
+use Rattle.format.specs.Contents.{nodesIn}
+use Rattle.machine.specs.declared.Record.{Record}
+use Rattle.machine.specs.Step.{isDelivered, holder, stepOf}
+use Rattle.machine.specs.Runs.{Listed, messagesIn, successful}
+use Rattle.machine.specs.Ready.{allDelivered}
+use Rattle.machine.proofs.Drain.{all-delivered, every-link-free}
+use Rattle.machine.proofs.Reached.{reached-state}
+use Rattle.machine.proofs.Ready.{delivered-every, messages-listed}
+use Rattle.start.specs.Start.{startFault, freshOf}
+use Rattle.draining.specs.Order.{turnOf}
+use Rattle.draining.specs.Drained.{after, sumOf, endOf}
+use Rattle.draining.proofs.Turns.{turn-moves, after-run, after-ends, after-same, after-count}
+use Rattle.draining.proofs.Running.{FabricOf, RunOf, fresh-run, fresh-moves, fabric-of, listed-of}
+
+module _ (b list : List ℕ) (fine : startFault b list ≡ Fine) where
+  fabric : FabricOf b
+  fabric = fabric-of b list fine
+
+  listed : Listed (nodesIn b) list
+  listed = listed-of b list fine
+
+  -- while a message is undelivered, the one that a turn chooses moves
+  pub chosen-moves : {r : Record} → RunOf b list r → (seed : ℕ) → allDelivered r ≡ false → successful (stepOf r (turnOf seed r .message) .answer) ≡ true
+  chosen-moves run seed d = turn-moves fabric listed run seed d
+
+  -- all are delivered exactly when the sum is reached
+  delivered-sum : {r : Record} → RunOf b list r → allDelivered r ≡ true → r .moves ≡ sumOf b list
+  delivered-sum {r} run d = let k = messages-listed fabric listed run in all-delivered fabric listed run .1 (λ m l. delivered-every r d m (omega arith))
+
+  module _ (seed : ℕ) where
+    -- the sum is the number of turns that it takes, and no budget: more turns change nothing
+    pub turns-needed : (k : ℕ) → (allDelivered (after k seed (freshOf b list)) ≡ true) ↔ (sumOf b list ≤ k)
+    turns-needed k =
+        let z = fresh-moves b list in (
+          λ d.
+              let e = delivered-sum (after-run fabric listed k seed (fresh-run b list)) d in
+              let c = after-count fabric listed k seed (fresh-run b list) in
+              omega arith,
+          λ l. after-ends fabric listed k seed (fresh-run b list) (omega arith),
+        )
+
+    pub no-budget : (k : ℕ) → sumOf b list ≤ k → after k seed (freshOf b list) ≡ endOf b list seed
+    unfolding endOf
+    no-budget k l = let z = fresh-moves b list in after-same fabric listed k (sumOf b list) seed (fresh-run b list) (omega arith) (omega arith)
+
+    end-run : RunOf b list (endOf b list seed)
+    unfolding endOf
+    end-run = after-run fabric listed (sumOf b list) seed (fresh-run b list)
+
+    pub end-all : allDelivered (endOf b list seed) ≡ true
+    unfolding endOf
+    end-all = turns-needed (sumOf b list) .1 (le-refl _)
+
+    pub end-moves : endOf b list seed .moves ≡ sumOf b list
+    end-moves = delivered-sum end-run end-all
+
+    pub end-messages : endOf b list seed .messages ≡ messagesIn list
+    end-messages = reached-state fabric listed end-run .1 .kept .messages
+
+    pub end-delivered : (m : ℕ) → m < messagesIn list → isDelivered (endOf b list seed) m ≡ true
+    end-delivered = all-delivered fabric listed end-run .0 end-moves
+
+    pub end-free : (c : ℕ) → holder (endOf b list seed) c ≡ 0
+    end-free = every-link-free fabric listed end-run end-delivered

@@ -1,0 +1,31 @@
+-- 01, "Programs": "Moves go on until every message is delivered."
+use mathlib.Core.Bool.{true, false}
+use mathlib.Core.List.{List}
+use Prim.Native.Nat.{ℕ, zero, suc}
+use Rattle.nodes.specs.Limits.{maxNodes}
+use Rattle.cabling.specs.Cabling.{links}
+use Rattle.rule.specs.Labels.{labelsOf}
+use Rattle.format.specs.Contents.{nodesIn, pairsIn}
+use Rattle.machine.specs.declared.Record.{Record}
+use Rattle.machine.specs.Runs.{allMoves}
+use Rattle.machine.specs.Ready.{allDelivered}
+use Rattle.start.specs.Start.{startFault, freshOf, recordAfter}
+use Rattle.draining.specs.declared.Drained.{Drained}
+use Rattle.draining.specs.Order.{turnOf}
+
+-- the record once every message is delivered, or after k turns
+unfoldable pub after : ℕ → ℕ → Record → Record
+after zero seed r = r
+after (suc k) seed r = elim (allDelivered r) [ true ↦ r | false ↦ after k (turnOf seed r .seed) (turnOf seed r .«record») ]
+
+-- demand 3's "sum of (shortest lawful hops + 1)" for the messages of the list: so many turns a drain takes
+abbrev pub sumOf : List ℕ → List ℕ → ℕ
+sumOf b list = allMoves (links (pairsIn b)) (labelsOf maxNodes (links (pairsIn b)) (nodesIn b)) list
+
+-- a whole drain, from a fresh start on
+unfoldable pub endOf : List ℕ → List ℕ → ℕ → Record
+endOf b list seed = after (sumOf b list) seed (freshOf b list)
+
+-- refused as start is, with the old record as it was
+unfoldable pub drainOf : Record → List ℕ → List ℕ → ℕ → Drained
+drainOf old b list seed = record { verdict = startFault b list; «record» = recordAfter (startFault b list) old (endOf b list seed) }

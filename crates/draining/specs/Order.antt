@@ -1,0 +1,29 @@
+-- 01, "Programs": which message Drain moves.
+use mathlib.Core.Bool.{true, false}
+use Prim.Native.Nat.{ℕ, _+_, _%_}
+use Rattle.finite.specs.Truth.{below}
+use Rattle.finite.specs.Search.{least}
+use Rattle.order.specs.Seed.{nextSeed, lookAt}
+use Rattle.machine.specs.declared.Record.{Record}
+use Rattle.machine.specs.Step.{stepOf}
+use Rattle.machine.specs.Ready.{messagesOf, ready}
+use Rattle.draining.specs.declared.Turned.{Turned}
+
+-- of n messages the one that stands k behind `look`, "going round"
+abbrev pub around : ℕ → ℕ → ℕ → ℕ
+around n look k = (look + k) % n
+
+-- "the first undelivered, unblocked message from there on, going round"; `look` where there is none
+unfoldable pub chosen : Record → ℕ → ℕ
+chosen r look =
+    let n : ℕ = messagesOf r in
+    let k : ℕ = least n (λ k. ready r (around n look k)) in
+    elim (below k n) [ true ↦ around n look k | false ↦ look ]
+
+-- "Before each move the seed becomes ..": the seed, where it says to look, the message that moves, and the record after its move
+unfoldable pub turnOf : ℕ → Record → Turned
+turnOf seed r =
+    let next : ℕ = nextSeed seed in
+    let look : ℕ = lookAt next (messagesOf r) in
+    let message : ℕ = chosen r look in
+    record { seed = next; look = look; message = message; «record» = stepOf r message .«record» }
