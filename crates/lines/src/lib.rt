@@ -5,7 +5,7 @@ ghost use Prim.Native.Nat.{_<_, _≤_, _^_};
 ghost use Rattle.grown.specs.Grown.{appended};
 ghost use Rattle.grown.specs.Holds.{Holds};
 ghost use Rattle.text.specs.Text.{decimalOf};
-ghost use Rattle.lines.specs.Lines.{refusalLine};
+ghost use Rattle.lines.specs.Lines.{withFields, refusalLine};
 use grown::Grown;
 use refusal::Refusal;
 
@@ -14,6 +14,18 @@ pub fn field(g: Grown, n: usize) -> Grown
     ensures { λ r. ⌜ r ≡ appended (appended g (32 ∷ [])) (decimalOf n) ⌝ }
 {
     text::number(grown::byte(g, 32), n)
+}
+
+// A further field for each byte.
+pub fn byte_fields(g: Grown, bytes: &[u8]) -> Grown
+    ensures { λ r. ⌜ r ≡ withFields g (now (bytes .entry)) ⌝ }
+{
+    let mut all = g;
+    for i in 0..bytes.len() {
+        let more = field(all, bytes[i] as usize);
+        all = more;
+    }
+    all
 }
 
 // The line that a refusal prints.
