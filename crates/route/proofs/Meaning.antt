@@ -1,4 +1,4 @@
--- What route writes in 01's words: "hops + 1 node numbers, source first", the nodes of a shortest lawful path. N bytes are room enough.
+-- What route writes in 01's words: "hops + 1 node numbers, source first", the nodes of a shortest lawful path. N bytes, and so 64, are room enough.
 use mathlib.Core.Path.{_≡_, _∙_, ap}
 use mathlib.Core.List.{List, [], _∷_}
 use Prim.Native.Nat.{ℕ, _+_, _≤_, _<_}
