@@ -1,0 +1,73 @@
+-- `show::output` meets its contract: the line of the refusal, or the report on the cabling of an image that is fine.
+use mathlib.Core.Path.{_≡_, sym, _∙_, ap, ap₂}
+use lib.Dec.{lit≤}
+use denote.Ref.{now}
+use Rattle.refusal.specs.declared.Verdict.{Verdict}
+use Rattle.refusal.specs.declared.Verdict.the-variants.{Fine}
+use Rattle.cabling.specs.Cabling.{Good}
+use Rattle.grown.proofs.Behind.{holds-as}
+use Rattle.format.specs.Contents.{nodesIn, pairsIn}
+use Rattle.image.specs.Calls.{imageFault}
+use Rattle.image.proofs.Images.{accepted-good}
+use Rattle.lines.specs.Lines.{orRefused}
+use Rattle.show.specs.Output.{reportOf, outputOf}
+use borrow.Author.Needs.{needs}
+use Rattle.show.proofs.output.Statement.{statement}
+use Rattle.show.proofs.output.Tie as tie
+
+-- the image was found fine
+image-fine : (c : tie.After-enum-told) → imageFault (now (c .before .before .before .before .args .input)) ≡ Fine
+image-fine c = sym (c .before .before .verdict .ensures) ∙ c .enum-told .given .1
+
+verdict-requires : tie.Need-verdict-requires
+verdict-requires c κs = search needs
+
+enum-known-checked : tie.Need-enum-known-checked
+enum-known-checked c = search needs
+
+refusal-line-requires : tie.Need-refusal-line-requires
+refusal-line-requires c κs = search needs
+
+enum-told : tie.Need-enum-told
+enum-told c = search needs
+
+nodes-in-requires : tie.Need-nodes-in-requires
+nodes-in-requires c κs = search needs
+
+pairs-in-requires : tie.Need-pairs-in-requires
+pairs-in-requires c κs = search needs
+
+report-requires : tie.Need-report-requires
+report-requires c κs = rw (c .before .nodes-in .ensures, c .pairs-in .ensures) (accepted-good _ (image-fine (c .before .before)))
+
+returns : tie.Need-returns
+unfolding outputOf orRefused
+returns c =
+    let v = c .before .before .before .before in
+    let b = now (v .before .before .args .input) in
+    let e = sym (v .verdict .ensures) ∙ c .before .before .checked .given .1 in
+    holds-as 16927 (c .refusal-line .ensures) (sym (ap (λ (x : Verdict). orRefused x (reportOf (nodesIn b) (pairsIn b))) e)) (lit≤ tt)
+
+returns-2 : tie.Need-returns-2
+unfolding outputOf orRefused
+returns-2 c =
+    let p = c .before in
+    let told = p .before .before in
+    let b = now (told .before .before .before .before .args .input) in
+    holds-as 16927 (c .report .ensures)
+    (ap₂ reportOf (p .before .nodes-in .ensures) (p .pairs-in .ensures)
+    ∙ sym (ap (λ (x : Verdict). orRefused x (reportOf (nodesIn b) (pairsIn b))) (image-fine told))) (lit≤ tt)
+
+pub output-spec : {M : Type 1} → statement M
+output-spec =
+    tie.close
+    (tie.spec
+    verdict-requires
+    enum-known-checked
+    refusal-line-requires
+    enum-told
+    nodes-in-requires
+    pairs-in-requires
+    report-requires
+    returns
+    returns-2)
