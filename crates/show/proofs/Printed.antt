@@ -76,8 +76,8 @@ printed-next {n} {pairs} {g} {v = v} p l a b e =
     let most = p .good .few in
     let size = tabulate-length n (λ t. entry maxNodes (links pairs) (labelOf n pairs) t true v) in
     let h =
-        holds-line 3 (decimalOf v) (labelOf n pairs v ∷ freeRow n pairs v) 2 (decimal-short v 1 (omega arith)) (numbers-short (p .good) v l) (p .holds)
-        (e ∙ ap₂ (λ (x : ℕ) (y : List ℕ). withLine g (decimalOf v) (x ∷ y)) a b) (omega arith) in
+    holds-line 3 (decimalOf v) (labelOf n pairs v ∷ freeRow n pairs v) 2 (decimal-short v 1 (omega arith)) (numbers-short (p .good) v l) (p .holds)
+    (e ∙ ap₂ (λ (x : ℕ) (y : List ℕ). withLine g (decimalOf v) (x ∷ y)) a b) (omega arith) in
     record {
       good = p .good;
       low = omega arith;
