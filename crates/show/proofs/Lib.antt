@@ -1,2 +1,3 @@
 pub mod Made
 pub mod Printed
+pub mod Tight

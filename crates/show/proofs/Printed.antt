@@ -1,9 +1,8 @@
 -- The lines of the nodes, one behind the other, and how long each may be.
-use mathlib.Core.Path.{_≡_, refl, sym, _∙_, ap, ap₂}
-use mathlib.Core.Bool.{Bool, true, false}
-use mathlib.Core.List.{List, [], _∷_, _++_, append-assoc, append-nil}
-use Prim.Native.Nat.{ℕ, zero, suc, _+_, _*_, _^_, _≤_, _<_}
-use native.Mathlib.Nat.{le-of-suc-le-suc}
+use mathlib.Core.Path.{_≡_, sym, _∙_, ap, ap₂}
+use mathlib.Core.Bool.{true, false}
+use mathlib.Core.List.{List, _∷_, _++_, append-assoc, append-nil}
+use Prim.Native.Nat.{ℕ, zero, suc, _+_, _*_, _≤_, _<_}
 use native.Mathlib.Numerals.{add-one}
 use native.Mathlib.Omega.{arith}
 use lib.Dec.{lit≤}
@@ -24,7 +23,7 @@ use Rattle.text.proofs.Decimal.{decimal-short}
 use Rattle.image.specs.Image.{labelOf}
 use Rattle.lines.specs.Lines.{withLine}
 use Rattle.lines.proofs.Whole.{Short, holds-line}
-use Rattle.show.specs.Output.{fabricLine, freeRow, nodeLine, nodeLines, reportOf}
+use Rattle.show.specs.Output.{fabricLine, freeEntry, freeRow, nodeLine, nodeLines, reportOf}
 
 -- the bytes of a node's line, at the most
 abbrev lineSize : ℕ
@@ -36,32 +35,33 @@ pub record Printed (n : ℕ) (pairs : List ℕ) (g : Grown) (v : ℕ) : Type 0 w
   pub low : v ≤ n
   pub holds : Holds g (fabricLine n pairs ++ nodeLines n pairs v) (95 + v * lineSize)
 
-module _ {n : ℕ} {pairs : List ℕ} (good : Good n pairs) where
-  -- ---- a label and an entry have at most three digits
+-- ---- a label and an entry have at most three digits
 
-  three : (x : ℕ) → x ≤ 255 → length (decimalOf x) ≤ 3
-  three x l = decimal-short x 2 (omega arith)
+three : (x : ℕ) → x ≤ 255 → length (decimalOf x) ≤ 3
+three x l = decimal-short x 2 (omega arith)
 
-  label-short : (v : ℕ) → labelOf n pairs v ≤ 255
-  label-short v =
+-- a node, or the byte that stands for none
+node-or-none : (u : ℕ) → elim (below u maxNodes) [ true ↦ u | false ↦ none ] ≤ 255
+node-or-none u = bcase (below u maxNodes) (λ t. rw t (let l = below-lt _ _ t in omega arith)) (λ t. rw t (lit≤ tt))
+
+module _ {n : ℕ} {pairs : List ℕ} (good : Good n pairs) (v : ℕ) where
+  label-short : labelOf n pairs v ≤ 255
+  label-short =
       let most = good .few in
       let l = label-le maxNodes (links pairs) (pairs-network pairs) n (good .few) (good .connected) v in
       omega arith
 
-  lead-short : (u : ℕ) → elim (below u maxNodes) [ true ↦ u | false ↦ none ] ≤ 255
-  lead-short u = bcase (below u maxNodes) (λ t. rw t (let l = below-lt _ _ t in omega arith)) (λ t. rw t (lit≤ tt))
-
-  entry-short : (t v : ℕ) → v < n → entry maxNodes (links pairs) (labelOf n pairs) t true v ≤ 255
+  entry-short : (t : ℕ) → v < n → freeEntry n pairs v t ≤ 255
   unfolding entry
-  entry-short t v l =
+  entry-short t l =
       let most = good .few in
-      bcase (same v t) (λ q. rw (q, entry) (omega arith)) (λ q. rw (q, entry) (lead-short _))
+      bcase (same v t) (λ q. rw (q, entry) (omega arith)) (λ q. rw (q, entry) (node-or-none _))
 
-  numbers-short : (v : ℕ) → v < n → Short 3 (labelOf n pairs v ∷ freeRow n pairs v)
-  numbers-short v l zero k = three _ (label-short v)
-  numbers-short v l (suc t) k =
-      let b : t < n = let e = tabulate-length n (λ t. entry maxNodes (links pairs) (labelOf n pairs) t true v) in omega arith in
-      rw (tabulate-at n (λ t. entry maxNodes (links pairs) (labelOf n pairs) t true v) t 0 b) (three _ (entry-short t v l))
+  numbers-short : v < n → Short 3 (labelOf n pairs v ∷ freeRow n pairs v)
+  numbers-short l zero k = three _ label-short
+  numbers-short l (suc t) k =
+      let e = tabulate-length n (freeEntry n pairs v) in
+      rw (tabulate-at n (freeEntry n pairs v) t 0 (omega arith)) (three _ (entry-short t l))
 
 -- ---- line by line
 
@@ -69,15 +69,14 @@ pub printed-begin : {n : ℕ} {pairs : List ℕ} {g : Grown} → Good n pairs �
 unfolding nodeLines
 printed-begin good h = record { good = good; low = omega arith; holds = holds-as 95 h (sym (append-nil _)) (lit≤ tt) }
 
-pub printed-next : {n : ℕ} {pairs : List ℕ} {g r : Grown} {v : ℕ} {label : ℕ} {row : List ℕ} → Printed n pairs g v → v < n → label ≡ labelOf n pairs v → row ≡ freeRow n pairs v
-    → r ≡ withLine g (decimalOf v) (label ∷ row) → Printed n pairs r (v + 1)
+pub printed-next : {n : ℕ} {pairs : List ℕ} {g r : Grown} {v label : ℕ} {row : List ℕ} → Printed n pairs g v → v < n
+    → label ≡ labelOf n pairs v → row ≡ freeRow n pairs v → r ≡ withLine g (decimalOf v) (label ∷ row) → Printed n pairs r (v + 1)
 unfolding nodeLines
 printed-next {n} {pairs} {g} {v = v} p l a b e =
     let most = p .good .few in
-    let size = tabulate-length n (λ t. entry maxNodes (links pairs) (labelOf n pairs) t true v) in
-    let h =
-    holds-line 3 (decimalOf v) (labelOf n pairs v ∷ freeRow n pairs v) 2 (decimal-short v 1 (omega arith)) (numbers-short (p .good) v l) (p .holds)
-    (e ∙ ap₂ (λ (x : ℕ) (y : List ℕ). withLine g (decimalOf v) (x ∷ y)) a b) (omega arith) in
+    let size = tabulate-length n (freeEntry n pairs v) in
+    let line = e ∙ ap₂ (λ (x : ℕ) (y : List ℕ). withLine g (decimalOf v) (x ∷ y)) a b in
+    let h = holds-line 3 (decimalOf v) _ 2 (decimal-short v 1 (omega arith)) (numbers-short (p .good) v l) (p .holds) line (omega arith) in
     record {
       good = p .good;
       low = omega arith;

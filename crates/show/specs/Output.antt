@@ -23,9 +23,12 @@ abbrev pub fabricLine : ℕ → List ℕ → List ℕ
 fabricLine n pairs =
     lineOf fabricWord (n ∷ length pairs / 2 ∷ allTurns maxNodes (links pairs) ∷ prohibitedTurns maxNodes (links pairs) (labelOf n pairs) ∷ [])
 
--- the free row of node v: its free entry for each destination
+-- the free row of node v: its free entry for each destination t
+abbrev pub freeEntry : ℕ → List ℕ → ℕ → ℕ → ℕ
+freeEntry n pairs v t = entry maxNodes (links pairs) (labelOf n pairs) t true v
+
 abbrev pub freeRow : ℕ → List ℕ → ℕ → List ℕ
-freeRow n pairs v = tabulate n (λ t. entry maxNodes (links pairs) (labelOf n pairs) t true v)
+freeRow n pairs v = tabulate n (freeEntry n pairs v)
 
 -- "its number, label and free row"
 abbrev pub nodeLine : ℕ → List ℕ → ℕ → List ℕ

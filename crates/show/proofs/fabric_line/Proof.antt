@@ -3,7 +3,6 @@ use mathlib.Core.Path.{_≡_, refl}
 use mathlib.Core.List.{[], _∷_}
 use native.Mathlib.Nat.{le-refl}
 use lib.Dec.{lit≤}
-use Rattle.grown.specs.declared.Grown.{Grown}
 use Rattle.grown.proofs.Behind.{holds-none, holds-as}
 use Rattle.text.proofs.Decimal.{decimal-bound}
 use Rattle.lines.specs.Lines.{withFields, withLine}
@@ -37,9 +36,15 @@ byte-requires c κs = search needs
 returns : tie.Need-returns
 unfolding withFields withLine
 returns c =
-    let empty = c .before .before .before .before .before .before .before in
+    let four = c .before in
+    let three = four .before in
+    let two = three .before in
+    let one = two .before in
+    let word = one .before in
+    let empty = word .before .before in
     let a = empty .before .before .args in
-    let e : c .byte .result ≡ withLine (empty .empty .result) fabricWord (a .n ∷ a .m ∷ a .t ∷ a .w ∷ []) = cc in
+    let e : c .byte .result ≡ withLine (empty .empty .result) fabricWord (a .n ∷ a .m ∷ a .t ∷ a .w ∷ []) =
+    rw (c .byte .ensures, four .field4 .ensures, three .field3 .ensures, two .field2 .ensures, one .field .ensures, word .append .ensures) in
     holds-as 95 (holds-line 21 fabricWord _ 6 (le-refl 6) (λ i l. decimal-bound _) (holds-none (empty .empty .ensures)) e (lit≤ tt)) refl (lit≤ tt)
 
 pub fabric-line-spec : {M : Type 1} → statement M

@@ -18,7 +18,10 @@ byte-requires c κs = search needs
 
 returns : tie.Need-returns
 unfolding withFields withLine
-returns c = cc
+returns c =
+    let fields = c .before in
+    let label = fields .before in
+    rw (c .byte .ensures, fields .byte-fields .ensures, label .field .ensures, label .before .number .ensures)
 
 pub node-line-spec : {M : Type 1} → statement M
 node-line-spec =

@@ -1,16 +1,13 @@
 -- `show::output` meets its contract: the line of the refusal, or the report on the cabling of an image that is fine.
-use mathlib.Core.Path.{_≡_, sym, _∙_, ap, ap₂}
+use mathlib.Core.Path.{_≡_, sym, _∙_, ap₂}
 use lib.Dec.{lit≤}
 use denote.Ref.{now}
-use Rattle.refusal.specs.declared.Verdict.{Verdict}
 use Rattle.refusal.specs.declared.Verdict.the-variants.{Fine}
-use Rattle.cabling.specs.Cabling.{Good}
 use Rattle.grown.proofs.Behind.{holds-as}
-use Rattle.format.specs.Contents.{nodesIn, pairsIn}
 use Rattle.image.specs.Calls.{imageFault}
 use Rattle.image.proofs.Images.{accepted-good}
-use Rattle.lines.specs.Lines.{orRefused}
-use Rattle.show.specs.Output.{reportOf, outputOf}
+use Rattle.show.specs.Output.{reportOf}
+use Rattle.show.proofs.Tight.{refused-alone, reported}
 use borrow.Author.Needs.{needs}
 use Rattle.show.proofs.output.Statement.{statement}
 use Rattle.show.proofs.output.Tie as tie
@@ -41,22 +38,15 @@ report-requires : tie.Need-report-requires
 report-requires c κs = rw (c .before .nodes-in .ensures, c .pairs-in .ensures) (accepted-good _ (image-fine (c .before .before)))
 
 returns : tie.Need-returns
-unfolding outputOf orRefused
 returns c =
     let v = c .before .before .before .before in
-    let b = now (v .before .before .args .input) in
-    let e = sym (v .verdict .ensures) ∙ c .before .before .checked .given .1 in
-    holds-as 16927 (c .refusal-line .ensures) (sym (ap (λ (x : Verdict). orRefused x (reportOf (nodesIn b) (pairsIn b))) e)) (lit≤ tt)
+    holds-as 16927 (c .refusal-line .ensures) (sym (refused-alone _ (sym (v .verdict .ensures) ∙ c .before .before .checked .given .1))) (lit≤ tt)
 
 returns-2 : tie.Need-returns-2
-unfolding outputOf orRefused
 returns-2 c =
     let p = c .before in
-    let told = p .before .before in
-    let b = now (told .before .before .before .before .args .input) in
-    holds-as 16927 (c .report .ensures)
-    (ap₂ reportOf (p .before .nodes-in .ensures) (p .pairs-in .ensures)
-    ∙ sym (ap (λ (x : Verdict). orRefused x (reportOf (nodesIn b) (pairsIn b))) (image-fine told))) (lit≤ tt)
+    let fine = image-fine (p .before .before) in
+    holds-as 16927 (c .report .ensures) (ap₂ reportOf (p .before .nodes-in .ensures) (p .pairs-in .ensures) ∙ sym (reported _ fine)) (lit≤ tt)
 
 pub output-spec : {M : Type 1} → statement M
 output-spec =
