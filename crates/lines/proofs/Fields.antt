@@ -1,7 +1,7 @@
--- What a field and a line add to what is held.
-use mathlib.Core.Path.{_≡_, refl, sym, _∙_, ap, subst}
-use mathlib.Core.List.{List, [], _∷_, _++_, append-assoc, append-nil}
-use Prim.Native.Nat.{ℕ, suc, _+_, _≤_, _<_}
+-- What a field adds to what is held.
+use mathlib.Core.Path.{_≡_, refl}
+use mathlib.Core.List.{List, [], _∷_, _++_, append-assoc}
+use Prim.Native.Nat.{ℕ, suc, _+_, _≤_}
 use native.Mathlib.Nat.{le-refl}
 use native.Mathlib.Omega.{arith}
 use lib.ListN.{length}
@@ -10,7 +10,7 @@ use Rattle.grown.specs.Grown.{roomSize, appended}
 use Rattle.grown.specs.Holds.{Holds}
 use Rattle.grown.proofs.Behind.{holds-more, holds-as}
 use Rattle.text.specs.Text.{decimalOf}
-use Rattle.lines.specs.Lines.{fieldOf, fieldsOf}
+use Rattle.lines.specs.Lines.{fieldOf}
 
 -- a further field of at most d digits
 pub holds-field : {g r : Grown} {s : List ℕ} {k : ℕ} (n d : ℕ) → Holds g s k → r ≡ appended (appended g (32 ∷ [])) (decimalOf n)
@@ -18,15 +18,3 @@ pub holds-field : {g r : Grown} {s : List ℕ} {k : ℕ} (n d : ℕ) → Holds g
 holds-field {s = s} {k = k} n d h e b l =
     holds-as (k + suc d) (holds-more (decimalOf n) d (holds-more (32 ∷ []) 1 h refl (le-refl 1) (omega arith)) e b (omega arith))
     (append-assoc s (32 ∷ []) (decimalOf n)) (omega arith)
-
--- fields one behind the other
-pub fields-more : (w : List ℕ) (ns : List ℕ) (n : ℕ) → (w ++ fieldsOf ns) ++ fieldOf n ≡ w ++ fieldsOf (ns ++ (n ∷ []))
-unfolding fieldsOf
-fields-more w [] n = ap (λ (x : List ℕ). x ++ fieldOf n) (append-nil w) ∙ ap (λ (x : List ℕ). w ++ x) (sym (append-nil (fieldOf n)))
-fields-more w (m ∷ ns) n =
-    ap (λ (x : List ℕ). x ++ fieldOf n) (sym (append-assoc w (fieldOf m) (fieldsOf ns))) ∙ fields-more (w ++ fieldOf m) ns n
-    ∙ append-assoc w (fieldOf m) (fieldsOf (ns ++ (n ∷ [])))
-
-pub fields-none : (w : List ℕ) → w ≡ w ++ fieldsOf []
-unfolding fieldsOf
-fields-none w = sym (append-nil w)
