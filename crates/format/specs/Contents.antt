@@ -1,10 +1,10 @@
 -- 01, "The image: contents, then bodies": what stands in the contents, and when they are in order. An image is a list of bytes.
 use mathlib.Core.Bool.{Bool, true, false}
-use mathlib.Core.List.{List, [], _∷_}
+use mathlib.Core.List.{List}
 use Prim.Native.Nat.{ℕ, zero, suc, _+_, _*_, _-_}
 use lib.Dec.{leb}
 use lib.ListN.{length, getD, take, drop}
-use Rattle.finite.specs.Truth.{_&_, _or_, same, below}
+use Rattle.finite.specs.Truth.{_&_, same, below}
 use Rattle.finite.specs.Search.{all}
 use Rattle.format.specs.declared.Entry.{Entry}
 use Rattle.format.specs.declared.Entry.the-variants.{At, Nothing}

@@ -1,9 +1,9 @@
 -- The pieces that the code appends are the image, and how long each may be.
 use mathlib.Core.Path.{_≡_, refl, sym, _∙_, ap, ap₂}
-use mathlib.Core.Bool.{Bool, true, false}
+use mathlib.Core.Bool.{true, false}
 use mathlib.Core.List.{List, [], _∷_, _++_, append-assoc, append-nil}
-use Prim.Native.Nat.{ℕ, suc, _+_, _*_, _≤_, _<_, min}
-use native.Mathlib.Nat.{mul-le-mul, le-refl, min-eq-left}
+use Prim.Native.Nat.{ℕ, suc, _+_, _*_, _≤_, min}
+use native.Mathlib.Nat.{mul-le-mul, min-eq-left}
 use native.Mathlib.Omega.{arith}
 use lib.ListN.{length, take}
 use lib.Seq.{length-take-le}

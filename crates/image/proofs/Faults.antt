@@ -1,11 +1,10 @@
 -- The checks of an image, case by case.
-use mathlib.Core.Path.{_≡_, refl, sym, _∙_, ap}
-use mathlib.Core.Bool.{Bool, true, false}
+use mathlib.Core.Path.{_≡_, _∙_}
+use mathlib.Core.Bool.{true, false}
 use mathlib.Core.List.{List}
 use Prim.Native.Nat.{ℕ, _≤_, _<_}
 use native.Mathlib.Omega.{arith}
 use lib.Dec.{leb}
-use lib.ListN.{length}
 use borrow.Author.Tests.{le-leb, lt-leb, leb-true, leb-false}
 use Rattle.finite.specs.Truth.{_&_, same}
 use Rattle.finite.specs.Lists.{alike}
@@ -13,7 +12,6 @@ use Rattle.finite.proofs.Truth.{no-tf, bcase, refute, both, and-l, and-r, same-
 use Rattle.nodes.specs.Limits.{maxNodes}
 use Rattle.refusal.specs.declared.Refusal.{Refusal}
 use Rattle.refusal.specs.declared.Refusal.the-variants.{Contents, Count, Shape, Differs}
-use Rattle.refusal.specs.declared.Verdict.{Verdict}
 use Rattle.refusal.specs.declared.Verdict.the-variants.{Fine, Fault}
 use Rattle.cabling.specs.Cabling.{Good}
 use Rattle.cabling.specs.Faults.{faultOf}

@@ -1,6 +1,6 @@
 -- What read, write and build answer, and what they leave in the lent buffer. The order of refusals: 1, 2, 3; then the first bad pair; 6, 7, 8, 9.
 use mathlib.Core.Path.{_≡_}
-use mathlib.Core.Bool.{Bool, true, false}
+use mathlib.Core.Bool.{true, false}
 use mathlib.Core.List.{List}
 use Prim.Native.Nat.{ℕ, _/_}
 use lib.Dec.{leb}

@@ -5,7 +5,7 @@ use mathlib.Core.List.{List}
 use Prim.Native.Nat.{ℕ, suc, _+_, _≤_}
 use native.Mathlib.Numerals.{add-one}
 use native.Mathlib.Omega.{arith}
-use lib.ListN.{length, replicate, length-set, length-replicate}
+use lib.ListN.{length, replicate, length-replicate}
 use Rattle.finite.specs.Truth.{below}
 use Rattle.finite.specs.Sets.{has, setOf, without}
 use Rattle.finite.proofs.Truth.{bcase, refute, and-l, below-lt, below-le}

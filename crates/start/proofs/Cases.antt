@@ -1,19 +1,17 @@
 -- The checks of a message list, and what start leaves, case by case.
-use mathlib.Core.Path.{_≡_, refl, sym, _∙_, ap, ap₂}
-use mathlib.Core.Bool.{Bool, true, false}
+use mathlib.Core.Path.{_≡_, refl, _∙_, ap₂}
+use mathlib.Core.Bool.{true}
 use mathlib.Core.List.{List}
-use mathlib.Core.Logic.{_⊎_, inl, inr}
 use Prim.Native.Nat.{ℕ, _≤_, _<_, _/_, _%_, min}
 use native.Mathlib.Omega.{arith}
 use lib.Dec.{leb, eqb}
 use lib.ListN.{length}
-use borrow.Author.Tests.{le-leb, lt-leb, leb-true, eqb-true}
-use Rattle.finite.specs.Truth.{_&_, _or_, below}
+use borrow.Author.Tests.{le-leb, lt-leb, eqb-true}
+use Rattle.finite.specs.Truth.{_&_, _or_}
 use Rattle.finite.specs.Search.{least}
-use Rattle.finite.proofs.Truth.{no-tf, bcase, refute, both, and-l, and-r, lt-below, le-below}
+use Rattle.finite.proofs.Truth.{no-tf, refute, both, and-l, and-r, lt-below, le-below}
 use Rattle.refusal.specs.declared.Refusal.{Refusal}
 use Rattle.refusal.specs.declared.Refusal.the-variants.{Unknown, Messages}
-use Rattle.refusal.specs.declared.Verdict.{Verdict}
 use Rattle.refusal.specs.declared.Verdict.the-variants.{Fine, Fault}
 use Rattle.machine.specs.Fresh.{sourceIn, targetIn, begunOf}
 use Rattle.machine.specs.declared.Record.{Record}
@@ -27,8 +25,7 @@ use Rattle.rows.specs.Tables.{tablesOf}
 use Rattle.image.specs.Image.{labelOf}
 use Rattle.image.proofs.Assembled.{labels-are, tables-are}
 use Rattle.image.specs.Calls.{andThen, imageFault}
-use Rattle.start.specs.Start.{fits, strange, listFault, startFault, freshOf, recordAfter, startOf}
-use Rattle.start.specs.declared.Started.{Started}
+use Rattle.start.specs.Start.{fits, strange, listFault, freshOf, recordAfter, startOf}
 
 -- a source that is no node; else the destination decides
 pub strange-source : (n : ℕ) (list : List ℕ) (p : ℕ) → n ≤ sourceIn list p → true ≡ strange n list p

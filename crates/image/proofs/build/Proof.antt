@@ -1,5 +1,5 @@
 -- `image::build` meets its contract: the checks of a links image, and then its full image, placed.
-use mathlib.Core.Path.{sym, _∙_, ap, ap₂}
+use mathlib.Core.Path.{sym, _∙_, ap₂}
 use mathlib.Core.Bool.{true}
 use lib.Dec.{lit≤}
 use Rattle.grown.proofs.Behind.{holds-held}

@@ -1,7 +1,6 @@
 -- `image::read` meets its contract: the checks, the pairs placed, and the numbers.
-use mathlib.Core.Path.{_≡_, sym, _∙_, ap, ap₂}
+use mathlib.Core.Path.{sym, _∙_, ap, ap₂}
 use mathlib.Core.Bool.{Bool}
-use mathlib.Core.List.{List}
 use Prim.Native.Nat.{ℕ, _/_}
 use denote.Ref.{now}
 use Rattle.format.specs.Contents.{pairsIn}

@@ -1,8 +1,6 @@
 -- `image::tables_fault` meets its contract: the image is compared with the one that its cabling has.
 use mathlib.Core.Path.{_≡_, sym, _∙_, ap, ap₂}
-use mathlib.Core.Bool.{Bool, true}
-use mathlib.Core.List.{List}
-use Prim.Native.Nat.{ℕ}
+use mathlib.Core.Bool.{true}
 use denote.Ref.{now}
 use lib.ListN.{length}
 use Rattle.format.specs.Contents.{nodesIn, pairsIn}

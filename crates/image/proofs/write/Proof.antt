@@ -1,5 +1,5 @@
 -- `image::write` meets its contract: the checks, and then the image, placed.
-use mathlib.Core.Path.{sym, _∙_, ap}
+use mathlib.Core.Path.{sym, _∙_}
 use lib.Dec.{lit≤}
 use Rattle.grown.proofs.Behind.{holds-held}
 use Rattle.cabling.proofs.Meaning.{fault-fine}

@@ -1,7 +1,6 @@
 -- `start::is_strange` meets its contract: the source, then the destination.
 use mathlib.Core.Path.{_∙_, ap}
 use native.Mathlib.Omega.{arith}
-use Prim.Native.Nat.{ℕ}
 use lib.Dec.{leb}
 use Rattle.start.proofs.Cases.{strange-source, strange-target}
 use borrow.Author.Needs.{needs}

@@ -1,10 +1,8 @@
 -- `start::list_fault` meets its contract: each way out is a case of the definition.
-use mathlib.Core.Path.{_≡_, sym, _∙_, ap, subst}
-use Prim.Native.Nat.{ℕ, _<_, _≤_, _/_}
+use mathlib.Core.Path.{_∙_, ap}
+use Prim.Native.Nat.{ℕ}
 use native.Mathlib.Omega.{arith}
-use lib.ListN.{length}
 use Rattle.refusal.specs.declared.Refusal.the-variants.{Unknown}
-use Rattle.refusal.specs.declared.Verdict.{Verdict}
 use Rattle.refusal.specs.declared.Verdict.the-variants.{Fault}
 use Rattle.start.proofs.Cases.{odd-list, long-list, strange-list, fine-list}
 use borrow.Author.Needs.{needs}

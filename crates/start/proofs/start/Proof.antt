@@ -1,6 +1,5 @@
 -- `start::start` meets its contract: the image, then the list, then a fresh record.
 use mathlib.Core.Path.{_≡_, sym, _∙_, ap}
-use mathlib.Core.List.{List}
 use Prim.Native.Nat.{ℕ}
 use denote.Ref.{now}
 use Rattle.refusal.specs.declared.Verdict.the-variants.{Fine}
