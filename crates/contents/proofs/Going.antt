@@ -17,7 +17,7 @@ abbrev IsNone : Entry → Type 0
 IsNone (At kind second offset length) = ⊥
 IsNone Nothing = Unit {0}
 
-abbrev going : Entry → ℕ → Found
+abbrev pub going : Entry → ℕ → Found
 going e n = record { entry = e; next = n }
 
 module _ (b : List ℕ) (i : ℕ) {e : Entry} (found : e ≡ entryOf b i) where
