@@ -1,5 +1,5 @@
 -- A reader of contents that are in order finds their k entries one by one, of kinds 1, .., k, and then none.
-use mathlib.Core.Path.{_≡_, refl, sym, _∙_, ap}
+use mathlib.Core.Path.{_≡_, refl, sym, _∙_}
 use mathlib.Core.Bool.{true}
 use mathlib.Core.List.{List}
 use Prim.Native.Nat.{ℕ, suc, _+_, _*_, _≤_, _<_}
@@ -25,7 +25,7 @@ module _ (b : List ℕ) (k : ℕ) (h : inOrder b k ≡ true) where
   finds-each i l =
       let words : InOrder b k = in-order-iff b k .0 h in
       let there : At (kindAt b i) (secondAt b i) (offsetAt b i) (lengthAt b i) ≡ entryOf b i =
-          entry-there b i (omega (arith, room)) (omega (arith, entries)) (omega (arith, room)) in
+      entry-there b i (omega (arith, room)) (omega (arith, entries)) (omega (arith, room)) in
       sym (goes-on b i there refl)
       ∙ (λ j. going (At (words .kinds i l j) (words .zeros i l j) (offsetAt b i) (lengthAt b i)) (add-one i j))
 
