@@ -3,7 +3,7 @@ use mathlib.Core.Path.{_≡_, sym, _∙_}
 use mathlib.Core.Bool.{Bool}
 use mathlib.Core.List.{List}
 use Prim.Native.Nat.{ℕ}
-use Rattle.format.specs.Contents.{entryOf, inOrder, nodesIn, zeroIn, pairsIn}
+use Rattle.format.specs.Contents.{numberAt, entryOf, inOrder, nodesIn, zeroIn, pairsIn}
 use Rattle.format.specs.declared.Entry.{Entry}
 
 module _ (b : List ℕ) where
@@ -21,3 +21,6 @@ module _ (b : List ℕ) where
 
   pub pairs-determined : (r s : List ℕ) → r ≡ pairsIn b → s ≡ pairsIn b → r ≡ s
   pairs-determined r s p q = p ∙ sym q
+
+  pub number-determined : (i r s : ℕ) → r ≡ numberAt b i → s ≡ numberAt b i → r ≡ s
+  number-determined i r s p q = p ∙ sym q

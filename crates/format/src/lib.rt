@@ -21,7 +21,7 @@ pub enum Entry {
 }
 
 // The number in two bytes from place i on, low byte first.
-fn number_at(image: &[u8], i: usize) -> usize
+pub fn number_at(image: &[u8], i: usize) -> usize
     ensures number { λ r. ⌜ r ≡ numberAt (now (image .entry)) i ⌝ }
     ensures low { λ r. ⌜ r ≤ 65535 ⌝ }
 {
