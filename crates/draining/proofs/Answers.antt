@@ -12,6 +12,7 @@ use Rattle.machine.specs.Step.{stepOf}
 use Rattle.machine.specs.Ready.{messagesOf}
 use Rattle.start.specs.declared.Started.{Started}
 use Rattle.start.specs.Start.{startFault, freshOf, recordAfter, startOf}
+use Rattle.draining.specs.declared.Drained.{Drained}
 use Rattle.draining.specs.Order.{chosen, turnOf}
 use Rattle.draining.specs.Drained.{endOf, drainOf}
 
@@ -43,3 +44,13 @@ module _ (old : Record) (b list : List ℕ) (seed : ℕ) where
   pub drained-is : startFault b list ≡ Fine → {last : Record} → last ≡ endOf b list seed → record { verdict = Fine; «record» = last } ≡ drainOf old b list seed
   unfolding recordAfter
   drained-is v {last} e = recorded Fine last v e
+
+-- what a caller reads off an answer of `drain`
+module _ (old : Record) (b list : List ℕ) (seed : ℕ) {x : Drained} (e : x ≡ drainOf old b list seed) where
+  pub drain-verdict : x .verdict ≡ startFault b list
+  unfolding drainOf
+  drain-verdict = ap (λ (d : Drained). d .verdict) e
+
+  pub drain-record : startFault b list ≡ Fine → x .«record» ≡ endOf b list seed
+  unfolding drainOf recordAfter
+  drain-record v = ap (λ (d : Drained). d .«record») e ∙ ap (λ (w : Verdict). recordAfter w old (endOf b list seed)) v
