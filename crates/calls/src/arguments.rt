@@ -1,0 +1,36 @@
+// Arguments, taken from the front of what is left of the input. What is missing reads as 0 or as nothing, so whether all arguments are there is seen
+// from the length of what is left behind the last of variable length.
+ghost use Prim.Native.Nat.{_≤_};
+
+// What stands behind the first bytes, nothing where there are fewer.
+pub fn behind(s: &[u8], size: usize) -> &[u8] {
+    if size <= s.len() { &s[size..] } else { &s[..0] }
+}
+
+// The bytes of an argument that says its length first, nothing where there are fewer.
+pub fn bytes(args: &[u8]) -> &[u8] {
+    let end = 2 + format::number_at(args, 0);
+    if end <= args.len() {
+        &args[2..end]
+    } else {
+        &args[..0]
+    }
+}
+
+// What stands behind such an argument.
+pub fn after_bytes(args: &[u8]) -> &[u8] {
+    behind(args, 2 + format::number_at(args, 0))
+}
+
+// A number of 32 bits, low byte first.
+pub fn double(args: &[u8], at: usize) -> usize
+    ensures { λ r. ⌜ r ≤ 4294967295 ⌝ }
+{
+    let low = format::number_at(args, at);
+    low + 65536 * format::number_at(behind(args, 2), at)
+}
+
+// A number of 64 bits, low byte first.
+pub fn long(args: &[u8]) -> usize {
+    double(args, 0) + 4294967296 * double(args, 4)
+}
