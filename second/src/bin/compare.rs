@@ -109,6 +109,7 @@ fn number(name: &str, value: &str) -> Result<u64, String> {
 #[derive(Default)]
 struct Tally {
     families: BTreeMap<&'static str, usize>,
+    programs: BTreeMap<&'static str, usize>,
     refusals: BTreeMap<u64, usize>,
     cases: usize,
     differences: usize,
@@ -118,6 +119,7 @@ impl Tally {
     fn count(&mut self, case: &Case, expected: &[u8]) {
         self.cases += 1;
         *self.families.entry(case.family).or_default() += 1;
+        *self.programs.entry(case.program).or_default() += 1;
         if let Some(number) = refusal_number(expected) {
             *self.refusals.entry(number).or_default() += 1;
         }
@@ -127,7 +129,9 @@ impl Tally {
         let set = format!("{:?}", options.set).to_lowercase();
         let families: String = listed(self.families.iter());
         let refusals: String = listed(self.refusals.iter());
+        let programs: String = listed(self.programs.iter());
         println!("refusals by number:{refusals}");
+        println!("cases by program:{programs}");
         println!(
             "compared: set {set}, seed {}:{families}; {} cases, {} differences, {:.1} s",
             options.seed,
@@ -200,8 +204,8 @@ fn compare_one(options: &Options, index: usize, case: &Case, tally: &Mutex<Tally
     }
 }
 
-/// The other side's output; an error if it can't start, is ended by a signal
-/// or takes too long. Its exit code doesn't count.
+/// The other side's output; an error if it can't start, ends with another exit
+/// code than 0 or takes too long.
 fn run_ours(options: &Options, case: &Case) -> Result<Vec<u8>, String> {
     let mut child = Command::new(&options.ours[0])
         .args(&options.ours[1..])
@@ -231,8 +235,8 @@ fn run_ours(options: &Options, case: &Case) -> Result<Vec<u8>, String> {
     };
     let status = child.wait().map_err(|fault| fault.to_string())?;
     match status.code() {
-        Some(_) => output.map_err(|fault| fault.to_string()),
-        None => Err(format!("ended by a signal: {status}")),
+        Some(0) => output.map_err(|fault| fault.to_string()),
+        _ => Err(format!("ended with {status}")),
     }
 }
 
