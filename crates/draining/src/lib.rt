@@ -43,7 +43,7 @@ pub fn turn(seed: u32, record: Record) -> Turned
     let next = order::next_seed(seed);
     let look = order::look(next, machine::few(record.messages));
     let message = choice(record, look);
-    let stepped = machine::step(record, message);
+    let stepped = moves::moved(record, message);
     let after = stepped.record;
     Turned {
         seed: next,
@@ -57,7 +57,7 @@ pub fn turn(seed: u32, record: Record) -> Turned
 pub fn drain(record: Record, image: &[u8], list: &[u8], seed: u32) -> Drained
     ensures { λ r. ⌜ r ≡ drainOf «record» (now (image .entry)) (now (list .entry)) seed ⌝ }
 {
-    let started = start::start(record, image, list);
+    let started = moves::started(record, image, list);
     let verdict = started.verdict;
     let mut last = started.record;
     if let Verdict::Fault(r) = verdict {

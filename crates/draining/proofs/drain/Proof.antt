@@ -24,19 +24,19 @@ fine-at : (c : tie.After-enum-told Inv-loop μ-loop) → let a = c .before .befo
 fine-at c =
     let s = c .before .before .before in
     let a = s .before .before .before .args in
-    started-fine (a .«record») (now (a .image)) (now (a .list)) (a .seed) (s .start .ensures) (c .enum-told .given .1)
+    started-fine (a .«record») (now (a .image)) (now (a .list)) (a .seed) (s .started .ensures) (c .enum-told .given .1)
 
 undelivered : (c : tie.Then1 Inv-loop μ-loop) → allDelivered (c .before .before .loop .last) ≡ false
 undelivered c = sym (c .before .all-delivered .ensures) ∙ non-true _ (sym (not-non _) ∙ c .if1 .taken)
 
-start-requires : tie.Need-start-requires Inv-loop μ-loop
-start-requires c κs = search needs
+started-requires : tie.Need-started-requires Inv-loop μ-loop
+started-requires c κs = search needs
 
 enum-known-verdict : tie.Need-enum-known-verdict Inv-loop μ-loop
 enum-known-verdict c = search needs
 
 returns : tie.Need-returns Inv-loop μ-loop
-returns c = started-refused _ _ _ _ (c .before .before .before .before .start .ensures) _ (c .before .verdict .given .1)
+returns c = started-refused _ _ _ _ (c .before .before .before .before .started .ensures) _ (c .before .verdict .given .1)
 
 enum-told : tie.Need-enum-told Inv-loop μ-loop
 enum-told c = search needs
@@ -45,7 +45,7 @@ loop-holds : tie.Need-loop-holds Inv-loop μ-loop
 loop-holds c =
     let s = c .before .before .before in
     let a = s .before .before .before .args in
-    rw (started-fresh _ _ _ (a .seed) (s .start .ensures) (c .enum-told .given .1)) (running-fresh _ _ (fine-at c) (a .seed))
+    rw (started-fresh _ _ _ (a .seed) (s .started .ensures) (c .enum-told .given .1)) (running-fresh _ _ (fine-at c) (a .seed))
 
 all-delivered-requires : tie.Need-all-delivered-requires Inv-loop μ-loop
 all-delivered-requires c κs = search needs
@@ -75,7 +75,7 @@ drain-spec =
     (tie.spec
     Inv-loop
     μ-loop
-    start-requires
+    started-requires
     enum-known-verdict
     returns
     enum-told

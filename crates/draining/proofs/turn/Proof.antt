@@ -18,15 +18,15 @@ look-requires c κs = search needs
 choice-requires : tie.Need-choice-requires
 choice-requires c κs = omega (arith, look-le (c .before .before .next-seed .result) (c .before .few .result))
 
-step-requires : tie.Need-step-requires
-step-requires c κs = search needs
+moved-requires : tie.Need-moved-requires
+moved-requires c κs = search needs
 
 returns : tie.Need-returns
 returns c =
     let m = c .before .before in
     let l = m .before in
     let n = l .before in
-    turned-is _ _ (n .before .next-seed .ensures) (n .few .ensures) (l .look .ensures) (m .choice .ensures) (c .before .step .ensures)
+    turned-is _ _ (n .before .next-seed .ensures) (n .few .ensures) (l .look .ensures) (m .choice .ensures) (c .before .moved .ensures)
 
 pub turn-spec : {M : Type 1} → statement M
-turn-spec = tie.close (tie.spec next-seed-requires few-requires look-requires choice-requires step-requires returns)
+turn-spec = tie.close (tie.spec next-seed-requires few-requires look-requires choice-requires moved-requires returns)
