@@ -1,5 +1,5 @@
 -- `draining::choice` meets its contract. The invariant: no message passed is ready.
-use mathlib.Core.Path.{_≡_, sym, _∙_}
+use mathlib.Core.Path.{_≡_, sym, _∙_, ap}
 use mathlib.Core.Bool.{false}
 use Prim.Native.Nat.{ℕ, _-_, _≤_, _<_}
 use native.Mathlib.Omega.{arith}
@@ -16,6 +16,14 @@ Inv-loop r look messages k₀ k = ((j : ℕ) → j < k → ready r (around (mess
 
 abbrev μ-loop : tie.MeasureT-loop
 μ-loop r look messages k₀ k = messages - k
+
+-- what is asked of the message that stands k behind
+looked-at : (c : tie.After-is-ready Inv-loop μ-loop) → let l = c .before .before in let a = l .before .before .args in
+    c .is-ready .result ≡ ready (a .«record») (around (messagesOf (a .«record»)) (a .look) (l .loop .k))
+looked-at c =
+    let l = c .before .before in
+    let a = l .before .before .args in
+    c .is-ready .ensures ∙ ap (λ (n : ℕ). ready (a .«record») (around n (a .look) (l .loop .k))) (l .before .few .ensures)
 
 few-requires : tie.Need-few-requires Inv-loop μ-loop
 few-requires c κs = search needs
@@ -35,9 +43,8 @@ is-ready-requires c κs = search needs
 returns : tie.Need-returns Inv-loop μ-loop
 returns c =
     let l = c .before .before .before in
-    let e = l .before .few .ensures in
-    let t = sym (c .before .is-ready .ensures) ∙ c .if1 .taken in
-    rw e (chosen-here _ _ (l .loop .k) (omega arith) (rw e at t) (l .loop .inv .0))
+    ap (λ (n : ℕ). around n (l .before .before .args .look) (l .loop .k)) (l .before .few .ensures)
+    ∙ chosen-here _ _ (l .loop .k) (let e = l .before .few .ensures in omega arith) (sym (looked-at (c .before)) ∙ c .if1 .taken) (l .loop .inv .0)
 
 add-k : tie.Need-add-k Inv-loop μ-loop
 add-k c = omega arith
@@ -46,11 +53,7 @@ loop-less : tie.Need-loop-less Inv-loop μ-loop
 loop-less c = omega arith
 
 loop-again : tie.Need-loop-again Inv-loop μ-loop
-loop-again c =
-    let l = c .before .before .before in
-    let e = l .before .few .ensures in
-    let f = sym (c .before .is-ready .ensures) ∙ c .if1 .left in
-    (below-more _ _ (l .loop .inv .0) (rw e at f), omega arith)
+loop-again c = (below-more _ _ (c .before .before .before .loop .inv .0) (sym (looked-at (c .before)) ∙ c .if1 .left), omega arith)
 
 returns-2 : tie.Need-returns-2 Inv-loop μ-loop
 returns-2 c = let e = c .before .before .few .ensures in chosen-none _ _ (λ k l. c .before .loop .inv .0 k (omega arith))

@@ -1,4 +1,5 @@
 -- `draining::turn` meets its contract.
+use Prim.Native.Nat.{_≤_}
 use native.Mathlib.Omega.{arith}
 use Rattle.order.proofs.Places.{look-le}
 use Rattle.draining.proofs.Answers.{turned-is}
@@ -16,7 +17,7 @@ look-requires : tie.Need-look-requires
 look-requires c κs = search needs
 
 choice-requires : tie.Need-choice-requires
-choice-requires c κs = omega (arith, look-le (c .before .before .next-seed .result) (c .before .few .result))
+choice-requires c κs = let l : c .look .result ≤ c .before .few .result = rw (c .look .ensures) (look-le _ _) in omega arith
 
 moved-requires : tie.Need-moved-requires
 moved-requires c κs = search needs
