@@ -1,3 +1,4 @@
 pub mod Going
 pub mod Whole
+pub mod Meet
 pub mod Tight

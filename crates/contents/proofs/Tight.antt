@@ -18,3 +18,6 @@ pub step-tight : (old : Reader) (x y : Entry) (r s : Reader) → (x, r) ≡ step
 step-tight old x y r s p q =
     let e = p ∙ sym q in
     (ap (λ (z : Entry × Reader). z .0) e, ap (λ (z : Entry × Reader). z .1) e)
+
+pub stepped-tight : (b : List ℕ) (i : ℕ) (x y : Found) → x ≡ foundAt b i → y ≡ foundAt b i → x ≡ y
+stepped-tight = step-at-tight

@@ -1,4 +1,5 @@
-// The contents of an image, walked by a reader. The work is in `step_at`, which is covered; `new` and `step` are thin over it.
+// The contents of an image, walked by a reader. The work is in `step_at`, which keeps no reference; `new` and `step` are thin, and `stepped` serves callers
+// that keep the image and the number themselves.
 ghost use mathlib.Core.Path.{_≡_};
 ghost use Rattle.contents.specs.Walking.{standing, foundAt, stepOf};
 use format::Entry;
@@ -41,4 +42,19 @@ pub fn step<'s, 'a>(reader: &'s mut Reader<'a>) -> Entry
     let s = step_at(reader.image, reader.next);
     reader.next = s.next;
     s.entry
+}
+
+// A step of a reader that is made for it.
+pub fn stepped(image: &[u8], number: usize) -> Found
+    ensures { λ r. ⌜ r ≡ foundAt (now (image .entry)) number ⌝ }
+{
+    let mut reader = Reader {
+        image,
+        next: number,
+    };
+    let entry = step(&mut reader);
+    Found {
+        entry,
+        next: reader.next,
+    }
 }
