@@ -8,10 +8,14 @@ pub fn word(w: &[u8]) {
     io::write_all(1, w);
 }
 
+fn number(n: usize) {
+    io::print_decimal(1, n as u64);
+}
+
 // A further field: a space, and the number.
 pub fn field(n: usize) {
     word(b" ");
-    io::print_decimal(1, n as u64);
+    number(n);
 }
 
 // A further field for each byte, and the line's end.
@@ -41,8 +45,8 @@ pub fn refused(r: Refusal) {
     two(b"refused", refusal::number(r), refusal::place(r));
 }
 
-// The line of a contents entry; was there one?
-pub fn entry(e: Entry) -> bool {
+// The line of a contents entry.
+pub fn entry(e: Entry) {
     match e {
         Entry::At {
             kind,
@@ -53,13 +57,11 @@ pub fn entry(e: Entry) -> bool {
             word(b"entry");
             field(kind as usize);
             field(second as usize);
-            two(b"", offset, length);
-            true
+            field(offset);
+            field(length);
+            word(b"\n");
         }
-        Entry::Nothing => {
-            word(b"none\n");
-            false
-        }
+        Entry::Nothing => word(b"none\n"),
     }
 }
 
@@ -80,4 +82,11 @@ pub fn step(a: Answer) {
         Answer::Delivered => word(b"delivered\n"),
         Answer::Refused(r) => refused(r),
     }
+}
+
+// The line of a drain's move: where it looked first, and the message that moved.
+pub fn turn(look: usize, message: usize) {
+    number(look);
+    field(message);
+    word(b"\n");
 }

@@ -3,7 +3,7 @@ use crate::answers;
 use crate::arguments;
 use image::Outcome;
 
-// Byte i is 7 i + 13 before the call.
+// Before the call byte i is 7 i + 13, its low byte.
 fn fill(buffer: &mut [u8]) {
     for i in 0..buffer.len() {
         buffer[i] = ((i % 256 * 7 + 13) % 256) as u8;
@@ -42,7 +42,9 @@ fn read_line(outcome: Outcome) {
         Outcome::Read { nodes, links, full } => {
             answers::word(b"read");
             answers::field(nodes);
-            answers::two(b"", links, if full { 1 } else { 0 });
+            answers::field(links);
+            answers::field(if full { 1 } else { 0 });
+            answers::word(b"\n");
         }
         Outcome::NotRead(r) => answers::refused(r),
     }

@@ -1,7 +1,9 @@
 // Calls of the drain machine: steps, the moves of named messages; and trace, a drain with a line for each move.
 use crate::answers;
 use crate::arguments;
+use machine::MAX_PAIRS;
 use machine::Record;
+use nodes::MAX_NODES;
 use refusal::Refusal;
 use refusal::Verdict;
 
@@ -10,8 +12,8 @@ const MOST_MOVES: usize = 16640;
 
 // A record to start with: a start fills it anew.
 fn blank() -> Record {
-    let labels = [0u8; 64];
-    let rows = [0u8; 4096];
+    let labels = [0u8; MAX_NODES];
+    let rows = [0u8; MAX_PAIRS];
     machine::begun(0, labels, rows, rows, b"")
 }
 
@@ -60,8 +62,7 @@ fn turned(record: Record, seed: u32) {
         next = t.seed;
         let after = t.record;
         last = after;
-        io::print_decimal(1, t.look as u64);
-        answers::one(b"", t.message);
+        answers::turn(t.look, t.message);
     }
     answers::two(b"drained", last.messages, last.moves);
 }

@@ -17,9 +17,10 @@ pub fn entry(args: &[u8]) -> bool {
 fn walked(image: &[u8], steps: usize) {
     let mut next: usize = 0;
     for k in 0..steps {
-        if answers::entry(format::entry_at(image, next)) {
-            next += 1;
-        }
+        let found = contents::step_at(image, next);
+        next = found.next;
+        let entry = found.entry;
+        answers::entry(entry);
     }
 }
 

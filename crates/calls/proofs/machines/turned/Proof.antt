@@ -6,10 +6,10 @@ use Rattle.calls.proofs.machines.turned.Statement.{statement}
 use Rattle.calls.proofs.machines.turned.Tie as tie
 
 abbrev Inv-loop : tie.InvT-loop
-Inv-loop seed last₀ next₀ k₀ t8 t9 last next k = k ≤ 16640
+Inv-loop seed last₀ next₀ k₀ t8 last next k = k ≤ 16640
 
 abbrev μ-loop : tie.MeasureT-loop
-μ-loop seed last₀ next₀ k₀ t8 t9 last next k = 16640 - k
+μ-loop seed last₀ next₀ k₀ t8 last next k = 16640 - k
 
 loop-holds : tie.Need-loop-holds Inv-loop μ-loop
 loop-holds c = omega arith
@@ -20,14 +20,8 @@ all-delivered-requires c κs = search needs
 turn-requires : tie.Need-turn-requires Inv-loop μ-loop
 turn-requires c κs = search needs
 
-print-decimal-requires : tie.Need-print-decimal-requires Inv-loop μ-loop
-print-decimal-requires c κs = search needs
-
-slice-aggregate-one : tie.Need-slice-aggregate-one Inv-loop μ-loop
-slice-aggregate-one c = search needs
-
-one-requires : tie.Need-one-requires Inv-loop μ-loop
-one-requires c κs = search needs
+turn-requires-2 : tie.Need-turn-requires-2 Inv-loop μ-loop
+turn-requires-2 c κs = search needs
 
 add-k : tie.Need-add-k Inv-loop μ-loop
 add-k c = omega arith
@@ -56,9 +50,7 @@ turned-spec =
     loop-holds
     all-delivered-requires
     turn-requires
-    print-decimal-requires
-    slice-aggregate-one
-    one-requires
+    turn-requires-2
     add-k
     loop-less
     loop-again
