@@ -13,11 +13,11 @@ pub fn entry(args: &[u8]) -> bool {
     true
 }
 
-// So many steps of a new walker.
+// So many steps of a reader that stands at 0.
 fn walked(image: &[u8], steps: usize) {
     let mut next: usize = 0;
     for k in 0..steps {
-        let found = contents::step_at(image, next);
+        let found = contents::stepped(image, next);
         next = found.next;
         let entry = found.entry;
         answers::entry(entry);

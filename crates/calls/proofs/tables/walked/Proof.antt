@@ -14,8 +14,8 @@ abbrev μ-loop : tie.MeasureT-loop
 loop-holds : tie.Need-loop-holds Inv-loop μ-loop
 loop-holds c = omega arith
 
-step-at-requires : tie.Need-step-at-requires Inv-loop μ-loop
-step-at-requires c κs = search needs
+stepped-requires : tie.Need-stepped-requires Inv-loop μ-loop
+stepped-requires c κs = search needs
 
 entry-requires : tie.Need-entry-requires Inv-loop μ-loop
 entry-requires c κs = search needs
@@ -39,7 +39,7 @@ walked-spec =
     Inv-loop
     μ-loop
     loop-holds
-    step-at-requires
+    stepped-requires
     entry-requires
     add-k
     loop-less
