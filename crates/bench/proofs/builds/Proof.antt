@@ -1,0 +1,83 @@
+-- `bench::builds` is safe and ends: each turn leaves one repeat less.
+use mathlib.Core.Path.{_≡_, sym, _∙_}
+use mathlib.Core.List.{List, _++_}
+use Prim.Native.Nat.{ℕ, _+_, _-_, _%_, _≤_}
+use lib.ListN.{length, take, drop, length-append, length-drop, length-replicate}
+use lib.Seq.{length-take-le}
+use native.Mathlib.Omega.{arith}
+use borrow.Author.Needs.{needs}
+use Rattle.bench.proofs.builds.Statement.{statement}
+use Rattle.bench.proofs.builds.Tie as tie
+
+-- what is lent fits the buffer
+room-there : (i n : ℕ) → n ≡ 9309 → 9308 + i % 2 ≤ n
+room-there i n h = omega arith
+
+-- a part that comes back as long as it was lent leaves the whole as long as it was
+kept : (k : ℕ) (a b : List ℕ) → length a ≡ length (take k b) → k ≤ length b → length (a ++ drop k b) ≡ length b
+kept k a b h l =
+    let p = length-append a (drop k b) in
+    let q = length-drop k b in
+    let r = length-take-le k b l in
+    omega arith
+
+abbrev Inv-loop : tie.InvT-loop
+Inv-loop links repeats buffer₀ last₀ i₀ buffer last i = (i ≤ repeats) × (length buffer ≡ 9309)
+
+abbrev μ-loop : tie.MeasureT-loop
+μ-loop links repeats buffer₀ last₀ i₀ buffer last i = repeats - i
+
+loop-holds : tie.Need-loop-holds Inv-loop μ-loop
+loop-holds c = (omega arith, length-replicate {A = ℕ} 9309 0)
+
+cast-room : tie.Need-cast-room Inv-loop μ-loop
+cast-room c = omega arith
+
+add-room : tie.Need-add-room Inv-loop μ-loop
+add-room c = omega arith
+
+array-borrow-prefix-buffer : tie.Need-array-borrow-prefix-buffer Inv-loop μ-loop
+array-borrow-prefix-buffer c = room-there _ _ (c .before .loop .inv .1)
+
+slice-aggregate-build : tie.Need-slice-aggregate-build Inv-loop μ-loop
+slice-aggregate-build c = sym (length-take-le _ _ (room-there _ _ (c .before .before .loop .inv .1)))
+
+build-requires : tie.Need-build-requires Inv-loop μ-loop
+build-requires c κs = tt
+
+bytes-in-requires : tie.Need-bytes-in-requires Inv-loop μ-loop
+bytes-in-requires c κs = tt
+
+add-i : tie.Need-add-i Inv-loop μ-loop
+add-i c = omega arith
+
+loop-less : tie.Need-loop-less Inv-loop μ-loop
+loop-less c = omega arith
+
+loop-again : tie.Need-loop-again Inv-loop μ-loop
+loop-again c =
+    let l = c .before .before .before .before .before .loop in (
+      omega arith,
+      kept _ (c .before .before .build .last .1 .0) (l .buffer) (c .before .buffer2 .given) (room-there (l .i) _ (l .inv .1)) ∙ l .inv .1,
+    )
+
+returns : tie.Need-returns Inv-loop μ-loop
+returns c = tt
+
+pub builds-spec : {M : Type 1} → statement M
+builds-spec =
+    tie.close
+    (tie.spec
+    Inv-loop
+    μ-loop
+    loop-holds
+    cast-room
+    add-room
+    array-borrow-prefix-buffer
+    slice-aggregate-build
+    build-requires
+    bytes-in-requires
+    add-i
+    loop-less
+    loop-again
+    returns)

@@ -1,0 +1,89 @@
+// Bench: repeats one piece of work inside one process, and prints the last answer's number. Input: the work (0 builds, 1 drains), the number of repeats
+// (32 bits, low byte first); for builds a links image; for drains an image's length (16 bits, low byte first), the image, and pairs.
+ghost use Prim.Native.Nat.{_≤_};
+use machine::Record;
+use written::Written;
+
+// How many bytes were written; 0 where none were.
+fn bytes_in(written: Written) -> usize {
+    match written {
+        Written::Bytes(m) => m,
+        Written::NotWritten(r) => 0,
+    }
+}
+
+// Builds so many times, into room that differs by a byte from one to the next, and answers how many bytes the last one wrote.
+fn builds(links: &[u8], repeats: u32) -> usize {
+    let mut buffer = [0u8; 9309];
+    let mut last: usize = 0;
+    for i in 0..repeats {
+        let room = 9308 + (i % 2) as usize;
+        let built = image::build(links, &mut buffer[..room]);
+        last = bytes_in(built);
+    }
+    last
+}
+
+// A record to start with: a start fills it anew.
+fn blank() -> Record {
+    let labels = [0u8; 64];
+    let rows = [0u8; 4096];
+    machine::begun(0, labels, rows, rows, b"")
+}
+
+// Drains so many times, each with its own number as the seed, and answers the moves of the last one.
+fn drains(image: &[u8], list: &[u8], repeats: u32) -> usize {
+    let mut last = blank();
+    for seed in 0..repeats {
+        let drained = draining::drain(last, image, list, seed);
+        let after = drained.record;
+        last = after;
+    }
+    last.moves
+}
+
+// A byte as a number.
+fn wide(byte: u8) -> u32
+    ensures { λ r. ⌜ r ≤ 255 ⌝ }
+{
+    byte as u32
+}
+
+// The repeats that an input asks for; 0 where it is too short.
+fn repeats_in(input: &[u8]) -> u32 {
+    if input.len() < 5 {
+        return 0;
+    }
+    wide(input[1]) + 256 * wide(input[2]) + 65536 * wide(input[3]) + 16777216 * wide(input[4])
+}
+
+// The answer of the drains that an input asks for; 0 where it is too short.
+fn drains_in(input: &[u8]) -> usize {
+    if input.len() < 7 {
+        return 0;
+    }
+    let end = 7 + (wide(input[5]) + 256 * wide(input[6])) as usize;
+    if input.len() < end {
+        return 0;
+    }
+    drains(&input[7..end], &input[end..], repeats_in(input))
+}
+
+// The answer of the work that an input asks for.
+fn answer(input: &[u8]) -> usize {
+    if input.len() < 5 {
+        return 0;
+    }
+    if input[0] == 1 {
+        return drains_in(input);
+    }
+    builds(&input[5..], repeats_in(input))
+}
+
+fn main() {
+    let mut input = io::large_buffer();
+    let n = io::read_full(0, &mut input);
+    let last = answer(&input[..n]);
+    io::print_decimal(1, last as u64);
+    io::write_all(1, b"\n");
+}
