@@ -71,7 +71,11 @@ impl Message {
             return;
         }
         let nodes = fabric.nodes;
-        let table = if self.falling { nodes + nodes * nodes } else { nodes };
+        let table = if self.falling {
+            nodes + nodes * nodes
+        } else {
+            nodes
+        };
         let entry = fabric.tables[table + self.at * nodes + self.target];
         self.next = 64 * self.at + usize::from(entry);
     }

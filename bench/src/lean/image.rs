@@ -28,7 +28,10 @@ pub fn bodies(image: &[u8]) -> Option<(&[u8], Option<&[u8]>)> {
 pub fn put_contents(out: &mut [u8], links: usize, nodes: usize) {
     out[..2].copy_from_slice(&[1, 4]);
     let mut offset = 26;
-    for (i, length) in [links, nodes, nodes * nodes, nodes * nodes].into_iter().enumerate() {
+    for (i, length) in [links, nodes, nodes * nodes, nodes * nodes]
+        .into_iter()
+        .enumerate()
+    {
         let entry = &mut out[2 + 6 * i..8 + 6 * i];
         entry[..2].copy_from_slice(&[i as u8 + 1, 0]);
         entry[2..4].copy_from_slice(&(offset as u16).to_le_bytes());

@@ -10,7 +10,11 @@ pub fn fill(near: &[u64; 64], nodes: usize, out: &mut [u8]) {
     let (mut up, mut down) = ([0; 64], [0; 64]);
     for v in 0..nodes {
         for u in members(near[v]) {
-            let way = if labels[u] > labels[v] { &mut up } else { &mut down };
+            let way = if labels[u] > labels[v] {
+                &mut up
+            } else {
+                &mut down
+            };
             way[v] |= 1 << u;
         }
     }
