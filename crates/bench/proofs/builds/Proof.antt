@@ -5,7 +5,6 @@ use Prim.Native.Nat.{ℕ, _+_, _-_, _%_, _≤_}
 use lib.ListN.{length, take, drop, length-append, length-drop, length-replicate}
 use lib.Seq.{length-take-le}
 use native.Mathlib.Omega.{arith}
-use borrow.Author.Needs.{needs}
 use Rattle.bench.proofs.builds.Statement.{statement}
 use Rattle.bench.proofs.builds.Tie as tie
 
@@ -37,7 +36,7 @@ add-room : tie.Need-add-room Inv-loop μ-loop
 add-room c = omega arith
 
 array-borrow-prefix-buffer : tie.Need-array-borrow-prefix-buffer Inv-loop μ-loop
-array-borrow-prefix-buffer c = room-there _ _ (c .before .loop .inv .1)
+array-borrow-prefix-buffer c = omega arith
 
 slice-aggregate-build : tie.Need-slice-aggregate-build Inv-loop μ-loop
 slice-aggregate-build c = sym (length-take-le _ _ (room-there _ _ (c .before .before .loop .inv .1)))
