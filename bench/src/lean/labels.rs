@@ -34,7 +34,7 @@ fn bounded(others: u64, d: usize, degrees: &[usize; 64]) -> bool {
     d * d.saturating_sub(1) <= sum
 }
 
-/// A node with one remaining link is no cut node; else flood what is left.
+/// Whether what is left without v is not reached from its lowest node.
 fn cuts(near: &[u64; 64], remains: u64, v: usize) -> bool {
     let left = remains & !(1 << v);
     left != 0 && reached(near, left & left.wrapping_neg(), left) != left
