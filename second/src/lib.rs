@@ -1,6 +1,7 @@
 //! The second program: images, labels, rows, routes, the drain machine and
 //! the programs of the scope paper, and the cases for the comparison.
 
+pub mod by_hand;
 pub mod calls;
 pub mod cases;
 pub mod drain;

@@ -20,6 +20,7 @@ pub fn run(name: &str, input: &[u8]) -> Option<Vec<u8>> {
         "show" => Some(show(input)),
         "drain" => Some(drain(input)),
         "calls" => Some(crate::protocol::calls(input)),
+        "worked" => Some(crate::by_hand::worked(input)),
         _ => None,
     }
 }

@@ -199,3 +199,24 @@ fn rows_are_parts_of_the_lent_tables() {
     assert!(row(&[0], &[0], 1, 0, 0).is_empty());
     assert!(hop(&free, &falling, 3, 2, 1, 3).is_err());
 }
+
+#[test]
+fn networks_marked_run() {
+    let text = String::from_utf8(run("worked", &[]).expect("a program")).expect("text");
+    let last = [
+        "no input: refused 1 0",
+        "1 node: refused 2 0",
+        "65 nodes: refused 2 0",
+        "64 nodes in a path: accepted",
+        "513 pairs: refused 3 0",
+        "the pair 1 0: refused 4 0",
+        "a pair twice: refused 5 1",
+        "degree 16: accepted",
+        "degree 17: refused 6 0",
+        "links 0-1 and 2-3: refused 7 2",
+        "no messages: drained 0 0",
+    ];
+    let lines: Vec<&str> = text.lines().collect();
+    assert!(lines.ends_with(&last));
+    assert!(text.contains("drained 4 12\nlooks 2\n"));
+}

@@ -1,6 +1,7 @@
-// The networks worked by hand, as one constant table; specs/Networks.antt has the same entries, and proofs/Entries.antt proves each of them right.
+// The networks worked by hand, as one constant table; specs/Networks.antt has the same entries, and proofs/Entries.antt proves each of them right. The program
+// runs them all, and those marked Run, and prints what it found.
 ghost use mathlib.Core.Path.{_≡_};
-ghost use lib.ListN.{getD};
+ghost use lib.ListN.{length, getD};
 ghost use Rattle.worked.specs.Networks.{worked};
 ghost use Rattle.worked.specs.Right.{flat};
 
@@ -486,6 +487,19 @@ fn worked_byte(i: usize) -> u8
     if i < 472 { WORKED[i] } else { 0 }
 }
 
+// The whole table, as its bytes are read.
+fn table() -> [u8; 472]
+    ensures { λ r. ⌜ 472 ≡ length r ⌝ }
+{
+    let mut all = [0u8; 472];
+    for i in 0..472usize {
+        all[i] = worked_byte(i);
+    }
+    all
+}
+
 fn main() {
-    worked_byte(0);
+    let all = table();
+    found::networks::tell_all(&all);
+    found::cases::tell_all();
 }

@@ -40,6 +40,7 @@ impl Case {
 /// All cases of the fixed families.
 pub fn fixed(set: Set) -> Vec<Case> {
     let mut cases = worked::cases();
+    cases.extend(worked::by_hand());
     cases.extend(shapes::cases(set));
     cases.extend(damage::cases(set));
     cases.extend(limits::cases());

@@ -88,20 +88,26 @@ fn ring_drains() -> Vec<Case> {
     cases
 }
 
+/// The images listed beside the worked networks, each with a few words.
+pub fn listed() -> Vec<(&'static str, Vec<u8>)> {
+    let doubled = Cabling::raw(3, &[(0, 1), (0, 1), (1, 2)]);
+    let apart = Cabling::raw(4, &[(0, 1), (2, 3)]);
+    vec![
+        ("no input", vec![]),
+        ("1 node", Cabling::raw(1, &[]).links_image()),
+        ("65 nodes", path(65).links_image()),
+        ("64 nodes in a path", path(64).links_image()),
+        ("513 pairs", too_many_pairs().links_image()),
+        ("the pair 1 0", Cabling::raw(2, &[(1, 0)]).links_image()),
+        ("a pair twice", doubled.links_image()),
+        ("degree 16", star(16).links_image()),
+        ("degree 17", star(17).links_image()),
+        ("links 0-1 and 2-3", apart.links_image()),
+    ]
+}
+
 fn listed_refusals() -> Vec<Case> {
-    let images = [
-        vec![],
-        Cabling::raw(1, &[]).links_image(),
-        path(65).links_image(),
-        path(64).links_image(),
-        too_many_pairs().links_image(),
-        Cabling::raw(2, &[(1, 0)]).links_image(),
-        Cabling::raw(3, &[(0, 1), (0, 1), (1, 2)]).links_image(),
-        star(16).links_image(),
-        star(17).links_image(),
-        Cabling::raw(4, &[(0, 1), (2, 3)]).links_image(),
-    ];
-    let programs = |image: &Vec<u8>| {
+    let programs = |(_, image): &(&str, Vec<u8>)| {
         let drain = drain_input(image, 7, &list(&[(0, 1), (1, 0)]));
         [
             Case::new("worked", "build", image.clone()),
@@ -110,8 +116,13 @@ fn listed_refusals() -> Vec<Case> {
             Case::new("worked", "calls", read_call(image, 1_100)),
         ]
     };
-    let mut cases: Vec<Case> = images.iter().flat_map(programs).collect();
+    let mut cases: Vec<Case> = listed().iter().flat_map(programs).collect();
     cases.push(Case::new("worked", "drain", vec![]));
     cases.push(Case::new("worked", "calls", vec![]));
     cases
+}
+
+/// The program that prints what is found of all of them: it reads nothing.
+pub fn by_hand() -> Vec<Case> {
+    vec![Case::new("hand", "worked", vec![])]
 }

@@ -1,0 +1,55 @@
+//! The program worked: what is found of each network worked by hand, and of
+//! the images listed beside them, as text.
+
+use crate::calls::accept;
+use crate::cases::cabling::{path, ring, Cabling};
+use crate::cases::pack::drain_input;
+use crate::cases::worked::{listed, networks, ring_messages};
+use crate::programs::{drain, drained, listed as numbers, show};
+
+/// The largest network whose falling rows are worked by hand.
+const ROWS_BY_HAND: usize = 4;
+
+pub fn worked(_: &[u8]) -> Vec<u8> {
+    let mut text: String = networks().iter().map(found).collect();
+    for (name, image) in listed() {
+        text += &format!("{name}: {}\n", verdict(&image));
+    }
+    let none = drain_input(&path(2).links_image(), 0, &[]);
+    text += &format!("no messages: {}", shown(drain(&none)));
+    text.into_bytes()
+}
+
+/// The lines of one network: those of its links image first.
+fn found(cabling: &Cabling) -> String {
+    let links = cabling.links_image();
+    let by_hand = *cabling == path(2);
+    let mut text = shown(show(&links));
+    if by_hand {
+        text += &format!("image{}\n", numbers(&links));
+    }
+    if *cabling == ring(4) {
+        let input = drain_input(&links, 0, &ring_messages());
+        let run = drained(&input).expect("the ring's messages are drained");
+        text += &format!("{}\nlooks {}\n", run.last_line(), run.steps[0].0);
+    }
+    if by_hand {
+        text += &format!("image{}\n", numbers(&cabling.full_image()));
+    }
+    if cabling.nodes <= ROWS_BY_HAND {
+        let (fabric, _) = accept(&links).expect("an accepted network");
+        text += &format!("falling{}\n", numbers(&fabric.tables.falling));
+    }
+    text
+}
+
+fn verdict(image: &[u8]) -> String {
+    match accept(image) {
+        Ok(_) => "accepted".into(),
+        Err(refused) => refused.to_string(),
+    }
+}
+
+fn shown(output: Vec<u8>) -> String {
+    String::from_utf8(output).expect("a program's text")
+}
