@@ -59,10 +59,10 @@ empty-requires : tie.Need-empty-requires
 empty-requires c κs = search needs
 
 array-share-prefix-buffer : tie.Need-array-share-prefix-buffer
-array-share-prefix-buffer c = front-at (c .before .before) .inside
+array-share-prefix-buffer c = let i = front-at (c .before .before) .inside in search needs
 
 slice-aggregate-append : tie.Need-slice-aggregate-append
-slice-aggregate-append c = front-at (c .before .before .before) .size
+slice-aggregate-append c = let s = front-at (c .before .before .before) .size in search needs
 
 append-requires : tie.Need-append-requires
 append-requires c κs = search needs
