@@ -2,20 +2,19 @@
 use mathlib.Core.Path.{_≡_, refl, sym, _∙_, ap, ap₂}
 use mathlib.Core.Bool.{Bool, true, false}
 use mathlib.Core.List.{List}
-use Prim.Native.Nat.{ℕ, _+_, _^_, _≤_, _<_}
-use native.Mathlib.Nat.{not-suc-le-zero}
-use native.Mathlib.Omega.{arith}
+use Prim.Native.Nat.{ℕ, _^_, _≤_, _<_}
 use lib.ListN.{length, getD, set, length-set}
 use lib.Seq.{getD-set-same, getD-set-other}
 use Rattle.finite.specs.Truth.{_&_, _or_, non, same, below}
 use Rattle.finite.specs.Search.{least}
-use Rattle.finite.specs.Sets.{has, setOf}
-use Rattle.finite.proofs.Truth.{no-tf, bcase, iff, both, and-l, and-true, and-false, or-l, or-r, or-case, true-non, same-eq, same-ne, same-refl, eq-same, ne-same}
+use Rattle.finite.specs.Sets.{has, setOf, without}
+use Rattle.finite.proofs.Truth.{no-tf, bcase, iff, refute, both, and-l, and-r, and-true, and-false, true-and, or-l, or-r, or-case, true-non, non-true, same-eq, same-ne, eq-same, ne-same, lt-below, le-below}
 use Rattle.finite.proofs.Search.{least-cong}
-use Rattle.finite.proofs.Sets.{has-setOf, setOf-lt, set-ext}
+use Rattle.finite.proofs.Sets.{has-0, has-lt, has-setOf, setOf-lt, set-ext, without-in, without-ne, in-without}
 use Rattle.finite.proofs.Lists.{tabulate-ext}
 use Rattle.nodes.specs.Limits.{maxNodes}
-use Rattle.rows.specs.Steps.{pick, admitted, leadOf, halfOf}
+use Rattle.nodes.proofs.Words.{lowest-in}
+use Rattle.rows.specs.Steps.{pick, leadOf, halfOf}
 use Rattle.rows.specs.declared.Side.{Side}
 
 pub side-ext : {a b : Side} → a .members ≡ b .members → a .entries ≡ b .entries → a ≡ b
@@ -39,95 +38,137 @@ first-differs c d = sym (ap (λ (x : Bool). x & c) (ne-same d) ∙ and-false c)
 pub first-agrees : {a b : ℕ} (c : Bool) → a ≡ b → c ≡ same a b & c
 first-agrees c e = sym (ap (λ (x : Bool). x & c) (eq-same e) ∙ and-true c)
 
--- a word and 64 entries
-pub record Sound (s : Side) : Type 0 where
-  pub word : s .members < 2 ^ maxNodes
-  pub size : length (s .entries) ≡ maxNodes
-
--- ---- one node
-
-module _ (v u : ℕ) (s : Side) where
-  -- the node joins
-  pub admit-joins : below u maxNodes & non (has (s .members) v) ≡ true
-      → admitted v u s ≡ record { members = setOf maxNodes (λ a. has (s .members) a or same v a); entries = set (s .entries) v u }
-  unfolding admitted
-  admit-joins t = rw (t, admitted)
-
-  pub admit-stays : below u maxNodes & non (has (s .members) v) ≡ false → admitted v u s ≡ s
-  unfolding admitted
-  admit-stays t = rw (t, admitted)
-
-  module _ (sound : Sound s) (low : v < maxNodes) where
-    pub admit-sound : Sound (admitted v u s)
-    admit-sound =
-        bcase (below u maxNodes & non (has (s .members) v))
-        (λ t. rw (admit-joins t) (record { word = setOf-lt maxNodes _; size = length-set (s .entries) v u ∙ sound .size }))
-        (λ t. rw (admit-stays t) sound)
-
-    -- every other node is as it was
-    pub other-members : (k : ℕ) → k < maxNodes → (k ≡ v → ⊥) → has (admitted v u s .members) k ≡ has (s .members) k
-    other-members k l d =
-        bcase (below u maxNodes & non (has (s .members) v))
-        (λ t. rw (admit-joins t) (has-setOf maxNodes _ k l ∙ ap (λ (b : Bool). has (s .members) k or b) (ne-same (λ e. d (sym e))) ∙ false-or _))
-        (λ t. rw (admit-stays t))
-
-    pub other-entry : (k : ℕ) → (k ≡ v → ⊥) → getD (admitted v u s .entries) k 0 ≡ getD (s .entries) k 0
-    other-entry k d =
-        bcase (below u maxNodes & non (has (s .members) v)) (λ t. rw (admit-joins t) (getD-set-other (s .entries) v k u 0 d)) (λ t. rw (admit-stays t))
-
-    pub here-members : has (admitted v u s .members) v ≡ has (s .members) v or below u maxNodes
-    here-members =
-        bcase (below u maxNodes & non (has (s .members) v))
-        (λ t. rw (admit-joins t) (has-setOf maxNodes _ v low ∙ or-r _ (same-refl v)) ∙ sym (or-r _ (and-l _ _ t)))
-        (λ t. ap (λ (x : Side). has (x .members) v) (admit-stays t) ∙ iff _ _ (or-l _) (λ h. or-case _ _ h (λ p. p) (λ p. inside p t)))
-      where
-        inside : below u maxNodes ≡ true → below u maxNodes & non (has (s .members) v) ≡ false → has (s .members) v ≡ true
-        inside p t = bcase (has (s .members) v) (λ q. q) (λ q. no-tf (both p (true-non q)) t)
-
-    pub here-entry : getD (admitted v u s .entries) v 0 ≡ pick (below u maxNodes & non (has (s .members) v)) u (getD (s .entries) v 0)
-    here-entry =
-        bcase (below u maxNodes & non (has (s .members) v))
-        (λ t. rw (t, admit-joins t) (getD-set-same (s .entries) v u 0 (rw (sound .size) low)))
-        (λ t. rw (t, admit-stays t))
-
 -- ---- node by node
 
--- the nodes before v have joined where `lead` gives them a node, the others are as they were
-pub record Halving (lead : ℕ → ℕ) (s next : Side) (v : ℕ) : Type 0 where
-  pub sound : Sound next
-  pub members : (k : ℕ) → k < v → k < maxNodes → has (next .members) k ≡ has (s .members) k or below (lead k) maxNodes
-  pub entries : (k : ℕ) → k < v → getD (next .entries) k 0 ≡ pick (below (lead k) maxNodes & non (has (s .members) k)) (lead k) (getD (s .entries) k 0)
-  pub same-members : (k : ℕ) → v ≤ k → k < maxNodes → has (next .members) k ≡ has (s .members) k
-  pub same-entries : (k : ℕ) → v ≤ k → getD (next .entries) k 0 ≡ getD (s .entries) k 0
+-- has k been passed, and joined in passing? m is the set of those that had joined before, left of those not yet passed
+unfoldable pub joined : (ℕ → ℕ) → ℕ → ℕ → ℕ → Bool
+joined lead m left k = non (has left k) & (below (lead k) maxNodes & non (has m k))
 
-pub halving-none : (lead : ℕ → ℕ) {s : Side} → Sound s → Halving lead s s 0
-halving-none lead w = record {
-  sound = w;
-  members = λ k l. absurd (not-suc-le-zero l);
-  entries = λ k l. absurd (not-suc-le-zero l);
-  same-members = λ k l b. refl;
-  same-entries = λ k l. refl;
+module _ (lead : ℕ → ℕ) (m left k : ℕ) where
+  not-passed : has left k ≡ true → joined lead m left k ≡ false
+  unfolding joined
+  not-passed t = refute _ (λ h. no-tf t (non-true _ (and-l _ _ h)))
+
+  passed : has left k ≡ false → joined lead m left k ≡ below (lead k) maxNodes & non (has m k)
+  unfolding joined
+  passed t = ap (λ (x : Bool). x & (below (lead k) maxNodes & non (has m k))) (true-non t) ∙ and-true _
+
+  other : (next : ℕ) → has next k ≡ has left k → joined lead m next k ≡ joined lead m left k
+  unfolding joined
+  other next e = ap (λ (x : Bool). non x & (below (lead k) maxNodes & non (has m k))) e
+
+-- a node that joins is one that had not
+joined-anew : (a b : Bool) → a or (b & non a) ≡ a or b
+joined-anew a b =
+    iff _ _ (λ h. or-case _ _ h (or-l b) (λ t. or-r a (and-l _ _ t)))
+    (λ h. or-case _ _ h (or-l _) (λ t. bcase a (or-l _) (λ f. or-r a (both t (true-non f)))))
+
+-- the set m and the entries e, from which half a round starts, and what they are once all but those left are passed
+pub record Halving (lead : ℕ → ℕ) (m : ℕ) (e : List ℕ) (members : ℕ) (entries : List ℕ) (left : ℕ) : Type 0 where
+  pub word : members < 2 ^ maxNodes
+  pub size : length entries ≡ maxNodes
+  pub rest : left < 2 ^ maxNodes
+  pub new : (k : ℕ) → has left k ≡ true → has m k ≡ false
+  pub joins : (k : ℕ) → k < maxNodes → has members k ≡ has m k or joined lead m left k
+  pub takes : (k : ℕ) → k < maxNodes → getD entries k 0 ≡ pick (joined lead m left k) (lead k) (getD e k 0)
+
+-- all are left that have not joined
+pub halving-none : (lead : ℕ → ℕ) (m : ℕ) {e : List ℕ} {all left : ℕ} → m < 2 ^ maxNodes → length e ≡ maxNodes → all ≡ setOf maxNodes (λ v. below v maxNodes)
+    → left ≡ setOf maxNodes (λ v. has all v & non (has m v)) → Halving lead m e m e left
+halving-none lead m {e} {all} {left} word size f g = record {
+  word = word;
+  size = size;
+  rest = rw g (setOf-lt maxNodes _);
+  new = λ k t. non-true _ (and-r _ _ (sym (in-left k (has-lt maxNodes left k (rw g (setOf-lt maxNodes _)) t)) ∙ t));
+  joins = λ k l. sym (ap (λ (x : Bool). has m k or x) (none k l) ∙ false-or _);
+  takes = λ k l. rw (none k l);
 }
+  where
+    in-left : (k : ℕ) → k < maxNodes → has left k ≡ has all k & non (has m k)
+    in-left k l = ap (λ (x : ℕ). has x k) g ∙ has-setOf maxNodes _ k l
 
-pub halving-more : {lead : ℕ → ℕ} {s next : Side} {v u : ℕ} → Halving lead s next v → v < maxNodes → u ≡ lead v
-    → Halving lead s (admitted v u next) (v + 1)
-halving-more {lead} {s} {next} {v} {u} h low e = record {
-  sound = admit-sound v u next (h .sound) low;
-  members = λ k l b.
-      bcase (same k v)
-      (λ q. rw (same-eq k v q) (here-members v u next (h .sound) low ∙ ap₂ (λ (x : Bool) (y : ℕ). x or below y maxNodes) (h .same-members v (omega arith) low) e))
-      (λ q. let d = same-ne k v q in other-members v u next (h .sound) low k b d ∙ h .members k (omega arith) b);
-  entries = λ k l.
-      bcase (same k v)
-      (λ q. rw (same-eq k v q) (here-entry v u next (h .sound) low ∙ rw (h .same-members v (omega arith) low, h .same-entries v (omega arith), e)))
-      (λ q. let d = same-ne k v q in other-entry v u next (h .sound) low k d ∙ h .entries k (omega arith));
-  same-members = λ k l b. other-members v u next (h .sound) low k b (λ q. omega arith) ∙ h .same-members k (omega arith) b;
-  same-entries = λ k l. other-entry v u next (h .sound) low k (λ q. omega arith) ∙ h .same-entries k (omega arith);
-}
+    in-all : (k : ℕ) → k < maxNodes → has all k ≡ true
+    in-all k l = ap (λ (x : ℕ). has x k) f ∙ has-setOf maxNodes _ k l ∙ lt-below l
 
-pub halving-all : (up down : List ℕ) (free falling : ℕ) {s next : Side} {v : ℕ} → Halving (leadOf up down free falling) s next v → maxNodes ≤ v
-    → next ≡ halfOf up down free falling s
+    none : (k : ℕ) → k < maxNodes → joined lead m left k ≡ false
+    none k l =
+        bcase (has left k) (not-passed lead m left k)
+        (λ t.
+        passed lead m left k t
+        ∙ refute _ (λ h. no-tf (in-left k l ∙ both (in-all k l) (and-r _ _ h)) t))
+
+-- the lowest node is passed
+module _ {lead : ℕ → ℕ} {m : ℕ} {e : List ℕ} {members : ℕ} {entries : List ℕ} {left v u next : ℕ} (h : Halving lead m e members entries left)
+    (some : left ≡ 0 → ⊥) (lowest : v ≡ least maxNodes (has left)) (less : next ≡ setOf maxNodes (without (has left) v)) (leads : u ≡ lead v) where
+  here : has left v ≡ true
+  here = ap (has left) lowest ∙ lowest-in maxNodes left (h .rest) some
+
+  node : v < maxNodes
+  node = has-lt maxNodes left v (h .rest) here
+
+  left-next : (k : ℕ) → k < maxNodes → has next k ≡ without (has left) v k
+  left-next k l = ap (λ (x : ℕ). has x k) less ∙ has-setOf maxNodes _ k l
+
+  next-in : (k : ℕ) → has next k ≡ true → has left k ≡ true
+  next-in k t = without-in (has left) v k (sym (left-next k (has-lt maxNodes next k (rw less (setOf-lt maxNodes _)) t)) ∙ t)
+
+  gone : has next v ≡ false
+  gone = left-next v node ∙ refute _ (λ t. without-ne (has left) v v t refl)
+
+  stays : (k : ℕ) → k < maxNodes → (k ≡ v → ⊥) → joined lead m next k ≡ joined lead m left k
+  stays k l d =
+      other lead m left k next (left-next k l ∙ iff _ _ (without-in (has left) v k) (λ t. in-without (has left) t (λ q. d (sym q))))
+
+  -- whether it joins
+  joins-here : joined lead m next v ≡ below u maxNodes
+  joins-here =
+      passed lead m next v gone ∙ ap₂ (λ (x : ℕ) (y : Bool). below x maxNodes & y) (sym leads) (true-non (h .new v here)) ∙ true-and _
+
+  pub halving-joins : {more : ℕ} → u < maxNodes → more ≡ setOf maxNodes (λ a. has members a or same v a) → Halving lead m e more (set entries v u) next
+  halving-joins {more} l f = record {
+    word = rw f (setOf-lt maxNodes _);
+    size = length-set entries v u ∙ h .size;
+    rest = rw less (setOf-lt maxNodes _);
+    new = λ k t. h .new k (next-in k t);
+    joins = λ k b.
+        ap (λ (x : ℕ). has x k) f ∙ has-setOf maxNodes _ k b
+        ∙ bcase (same k v)
+        (λ q. let p = same-eq k v q in or-r _ (eq-same (sym p)) ∙ sym (or-r _ (ap (joined lead m next) p ∙ joins-here ∙ lt-below l)))
+        (λ q.
+        let d = same-ne k v q in
+        ap (λ (x : Bool). has members k or x) (ne-same (λ p. d (sym p))) ∙ false-or _ ∙ h .joins k b ∙ ap (λ (x : Bool). has m k or x) (sym (stays k b d)));
+    takes = λ k b.
+        bcase (same k v)
+        (λ q.
+        let p = same-eq k v q in
+        rw (p, joins-here, lt-below l) (getD-set-same entries v u 0 (rw (h .size) node) ∙ leads))
+        (λ q. let d = same-ne k v q in rw (stays k b d) (getD-set-other entries v k u 0 d ∙ h .takes k b));
+  }
+
+  pub halving-stays : maxNodes ≤ u → Halving lead m e members entries next
+  halving-stays l = record {
+    word = h .word;
+    size = h .size;
+    rest = rw less (setOf-lt maxNodes _);
+    new = λ k t. h .new k (next-in k t);
+    joins = λ k b. h .joins k b ∙ ap (λ (x : Bool). has m k or x) (sym (alike k b));
+    takes = λ k b. rw (alike k b) (h .takes k b);
+  }
+    where
+      alike : (k : ℕ) → k < maxNodes → joined lead m next k ≡ joined lead m left k
+      alike k b =
+          bcase (same k v)
+          (λ q.
+          let p = same-eq k v q in
+          ap (joined lead m next) p ∙ joins-here ∙ le-below l ∙ sym (not-passed lead m left k (ap (has left) p ∙ here)))
+          (λ q. stays k b (same-ne k v q))
+
+pub halving-all : (up down : List ℕ) (free falling : ℕ) (s : Side) {members : ℕ} {entries : List ℕ} {left : ℕ}
+    → Halving (leadOf up down free falling) (s .members) (s .entries) members entries left → left ≡ 0
+    → record { members = members; entries = entries } ≡ halfOf up down free falling s
 unfolding halfOf
-halving-all up down free falling {next = next} h l =
-    side-ext (set-ext maxNodes _ _ (h .sound .word) (λ k b. h .members k (omega arith) b))
-    (tabulate-ext maxNodes _ 0 (next .entries) (h .sound .size) (λ k b. h .entries k (omega arith)))
+halving-all up down free falling s {members} {entries} {left} h z =
+    let all : (k : ℕ) → joined (leadOf up down free falling) (s .members) left k ≡ below (leadOf up down free falling k) maxNodes & non (has (s .members) k) =
+    λ k. passed (leadOf up down free falling) (s .members) left k (ap (λ (x : ℕ). has x k) z ∙ has-0 k) in
+    side-ext (set-ext maxNodes _ _ (h .word) (λ k b. h .joins k b ∙ ap (λ (x : Bool). has (s .members) k or x) (all k) ∙ joined-anew _ _))
+    (tabulate-ext maxNodes _ 0 entries (h .size) (λ k b. rw (← all k) (h .takes k b)))

@@ -34,14 +34,6 @@ startOf t =
     let side : Side = record { members = setOf maxNodes (same t); entries = set (replicate maxNodes none) t t } in
     record { free = side; falling = side }
 
--- v joins with the entry u, if it has not joined yet and u is a node
-unfoldable pub admitted : ℕ → ℕ → Side → Side
-admitted v u side =
-    elim (below u maxNodes & non (has (side .members) v)) [
-      | true ↦ record { members = setOf maxNodes (λ a. has (side .members) a or same v a); entries = set (side .entries) v u }
-      | false ↦ side
-    ]
-
 -- the lowest node to which a hop from v leads: up into the free set, or down into the falling one
 unfoldable pub leadOf : List ℕ → List ℕ → ℕ → ℕ → ℕ → ℕ
 leadOf up down free falling v = least maxNodes (λ u. edgeOf up v u & has free u or edgeOf down v u & has falling u)

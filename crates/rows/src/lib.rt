@@ -8,7 +8,7 @@ ghost use Rattle.finite.specs.Sets.{has};
 ghost use Rattle.nodes.specs.Limits.{maxNodes};
 ghost use Rattle.network.specs.Table.{edgeOf};
 ghost use Rattle.rows.specs.Tables.{tablesOf};
-ghost use Rattle.rows.specs.Steps.{waysOf, startOf, admitted, halfOf, roundOf, rounds, searchAt, OfWays, columnOf, placedOf};
+ghost use Rattle.rows.specs.Steps.{waysOf, startOf, halfOf, roundOf, rounds, searchAt, OfWays, columnOf, placedOf};
 ghost use Rattle.rows.specs.Row.{rowKnown, rowIn, hopIn};
 use nodes::MAX_NODES;
 use refusal::Refusal;
@@ -76,36 +76,23 @@ fn lead(up: u64, down: u64, free: u64, falling: u64) -> usize
     nodes::lowest(nodes::union(nodes::common(up, free), nodes::common(down, falling)))
 }
 
-// Node v joins with the entry u, if it has not joined yet and u is a node.
-fn admit(side: Side, v: usize, u: usize) -> Side
-    requires { ⌜ v < maxNodes ⌝ }
-    ensures { λ r. ⌜ r ≡ admitted v u side ⌝ }
-{
-    if MAX_NODES <= u {
-        return side;
-    }
-    if nodes::has(side.members, v) {
-        return side;
-    }
-    let mut entries = side.entries;
-    entries[v] = u as u8;
-    Side {
-        members: nodes::with(side.members, v),
-        entries,
-    }
-}
-
-// One class of a round. All its tests go by the sets free and falling.
+// One class of a round: every node that has not joined yet joins where a hop leads from it. All tests go by the sets free and falling.
 fn half(up: &[u64], down: &[u64], free: u64, falling: u64, side: Side) -> Side
     ensures { λ r. ⌜ r ≡ halfOf (now (up .entry)) (now (down .entry)) free falling side ⌝ }
 {
-    let mut next = side;
-    for v in 0..MAX_NODES {
+    let mut members = side.members;
+    let mut entries = side.entries;
+    let mut left = nodes::difference(nodes::first(MAX_NODES), side.members);
+    while left != 0 {
+        let v = nodes::lowest(left);
+        left = nodes::without(left, v);
         let u = lead(network::row(up, v), network::row(down, v), free, falling);
-        let more = admit(next, v, u);
-        next = more;
+        if u < MAX_NODES {
+            entries[v] = u as u8;
+            members = nodes::with(members, v);
+        }
     }
-    next
+    Side { members, entries }
 }
 
 // One round. What falls already can't rise: it has no free set to rise into.

@@ -1,26 +1,40 @@
 -- `rows::half` meets its contract. The invariant: the nodes passed have joined where a hop leads from them.
-use mathlib.Core.Path.{sym, _∙_}
-use Prim.Native.Nat.{_-_, _≤_}
+use mathlib.Core.Path.{_≡_, sym, _∙_}
+use Prim.Native.Nat.{_<_}
 use native.Mathlib.Omega.{arith}
 use lib.ListN.{length-map}
+use Rattle.nodes.proofs.Words.{lowest-lt, next-less}
 use Rattle.nodes.specs.Limits.{maxNodes}
 use Rattle.network.specs.Table.{edgeOf}
 use Rattle.rows.specs.Steps.{leadOf}
-use Rattle.rows.proofs.Joining.{Halving, halving-none, halving-more, halving-all}
+use Rattle.rows.proofs.Joining.{Halving, halving-none, halving-joins, halving-stays, halving-all}
 use Rattle.rows.proofs.half.Statement.{statement}
 use Rattle.rows.proofs.half.Tie as tie
 
 abbrev Inv-loop : tie.InvT-loop
-Inv-loop up down free falling next₀ v₀ next v = Halving (leadOf up down free falling) next₀ next v × (v ≤ maxNodes)
+Inv-loop up down free falling members₀ entries₀ left₀ members entries left = Halving (leadOf up down free falling) members₀ entries₀ members entries left
 
 abbrev μ-loop : tie.MeasureT-loop
-μ-loop up down free falling next₀ v₀ next v = maxNodes - v
+μ-loop up down free falling members₀ entries₀ left₀ members entries left = left
+
+first-requires : tie.Need-first-requires Inv-loop μ-loop
+first-requires c κs = tt
+
+difference-requires : tie.Need-difference-requires Inv-loop μ-loop
+difference-requires c κs = tt
 
 -- the array that the struct holds has its length from what owning the struct tells
 loop-holds : tie.Need-loop-holds Inv-loop μ-loop
 loop-holds c =
-    let side = c .before .before .good .1 .1 .1 .1 .0 in
-    (halving-none _ (record { word = omega arith; size = sym (length-map (c .before .before .args .side .entries) (λ x. x)) ∙ side .1 .1 .1 .0 .1 .0 .1 }), omega arith)
+    let b = c .before .before .before .before .before in
+    let side = b .good .1 .1 .1 .1 .0 in
+    halving-none _ _ (omega arith) (sym (length-map (b .args .side .entries) (λ x. x)) ∙ side .1 .1 .1 .0 .1 .0 .1) (c .before .first .ensures) (c .difference .ensures)
+
+lowest-requires : tie.Need-lowest-requires Inv-loop μ-loop
+lowest-requires c κs = tt
+
+without-requires : tie.Need-without-requires Inv-loop μ-loop
+without-requires c κs = tt
 
 row-requires : tie.Need-row-requires Inv-loop μ-loop
 row-requires c κs = tt
@@ -31,27 +45,53 @@ row-requires-2 c κs = tt
 lead-requires : tie.Need-lead-requires Inv-loop μ-loop
 lead-requires c κs = tt
 
-admit-requires : tie.Need-admit-requires Inv-loop μ-loop
-admit-requires c κs = omega arith
+cast-entries : tie.Need-cast-entries Inv-loop μ-loop
+cast-entries c = omega arith
 
-add-v : tie.Need-add-v Inv-loop μ-loop
-add-v c = omega arith
+array-write-entries : tie.Need-array-write-entries Inv-loop μ-loop
+array-write-entries c =
+    let v = c .before .before .before .before .before in
+    rw (v .lowest .ensures) (lowest-lt maxNodes _ (v .before .before .loop .inv .rest) (v .before .loop-test .taken))
+
+with-requires : tie.Need-with-requires Inv-loop μ-loop
+with-requires c κs = tt
+
+less : (c : tie.After-without Inv-loop μ-loop) → c .without .result < c .before .before .before .loop .left
+less c =
+    let v = c .before in
+    next-less maxNodes (v .before .before .loop .inv .rest) (v .before .loop-test .taken) (v .lowest .ensures) (c .without .ensures)
 
 loop-less : tie.Need-loop-less Inv-loop μ-loop
-loop-less c = omega arith
+loop-less c = less (c .before .before .before .before .before)
+
+-- the hop that leads from the node
+leads : (c : tie.After-lead Inv-loop μ-loop) →
+    let w = c .before .before .before in
+    let a = w .before .before .before .before .before .before .before .before .before .args in
+    c .lead .result ≡ leadOf (a .up .now) (a .down .now) (a .free) (a .falling) (w .before .lowest .result)
+unfolding leadOf edgeOf
+leads c = c .lead .ensures ∙ rw (c .before .before .row .ensures, c .before .row2 .ensures)
 
 loop-again : tie.Need-loop-again Inv-loop μ-loop
-unfolding leadOf edgeOf
 loop-again c =
+    let l = c .before .before in
+    let w = l .before .before .before in
+    let v = w .before in
+    halving-joins (v .before .before .loop .inv) (v .before .loop-test .taken) (v .lowest .ensures) (w .without .ensures) (leads l) (c .before .if1 .taken)
+    (c .with .ensures)
+
+loop-less-2 : tie.Need-loop-less-2 Inv-loop μ-loop
+loop-less-2 c = less (c .before .before .before .before)
+
+loop-again-2 : tie.Need-loop-again-2 Inv-loop μ-loop
+loop-again-2 c =
     let l = c .before in
-    let r = l .before in (
-      rw (c .admit .ensures) (halving-more (r .before .before .before .loop .inv .0) (omega arith)
-          (l .lead .ensures ∙ rw (r .before .row .ensures, r .row2 .ensures))),
-      omega arith,
-    )
+    let w = l .before .before .before in
+    let v = w .before in
+    halving-stays (v .before .before .loop .inv) (v .before .loop-test .taken) (v .lowest .ensures) (w .without .ensures) (leads l) (c .if1 .left)
 
 returns : tie.Need-returns Inv-loop μ-loop
-returns c = halving-all _ _ _ _ (c .before .loop .inv .0) (c .loop-test .left)
+returns c = halving-all _ _ _ _ _ (c .before .loop .inv) (c .loop-test .left)
 
 pub half-spec : {M : Type 1} → statement M
 half-spec =
@@ -59,12 +99,19 @@ half-spec =
     (tie.spec
     Inv-loop
     μ-loop
+    first-requires
+    difference-requires
     loop-holds
+    lowest-requires
+    without-requires
     row-requires
     row-requires-2
     lead-requires
-    admit-requires
-    add-v
+    cast-entries
+    array-write-entries
+    with-requires
     loop-less
     loop-again
+    loop-less-2
+    loop-again-2
     returns)
