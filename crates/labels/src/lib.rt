@@ -1,5 +1,6 @@
 // The labelling rule: labels 1, 2, .. in order, each to the least candidate of what remains.
 ghost use mathlib.Core.Path.{_≡_};
+ghost use mathlib.Core.Bool.{true};
 ghost use Prim.Native.Nat.{_-_, min};
 ghost use Rattle.finite.specs.Sum.{count};
 ghost use Rattle.finite.specs.Sets.{has};
@@ -38,21 +39,19 @@ pub struct Best {
     pub node: usize,
 }
 
-// The better of the best so far and v: v where it is a candidate of a lower degree.
-fn better_of(t: [u64; MAX_NODES], w: u64, v: usize, best: Best) -> Best
-    ensures { λ r. ⌜ r ≡ better (λ u. count maxNodes (edgeOf t u)) (candidateBy maxNodes (edgeOf t) (has w)) v best ⌝ }
+// The better of the best so far and v, a node of w: v where it is a candidate of a lower degree.
+fn better_of(t: &[u64; MAX_NODES], w: u64, v: usize, best: Best) -> Best
+    requires { ⌜ has w v ≡ true ⌝ }
+    ensures { λ r. ⌜ r ≡ better (λ u. count maxNodes (edgeOf (now (t .entry)) u)) (candidateBy maxNodes (edgeOf (now (t .entry))) (has w)) v best ⌝ }
 {
-    let d = network::degree(&t, v);
+    let d = network::degree(t, v);
     if best.degree <= d {
         return best;
     }
-    if !nodes::has(w, v) {
+    if !room(t, v) {
         return best;
     }
-    if !room(&t, v) {
-        return best;
-    }
-    if network::splits(t, w, v) {
+    if network::splits(*t, w, v) {
         return best;
     }
     Best { degree: d, node: v }
@@ -66,8 +65,11 @@ pub fn choice(t: [u64; MAX_NODES], w: u64) -> usize
         degree: 65,
         node: 64,
     };
-    for v in 0..MAX_NODES {
-        let next = better_of(t, w, v, best);
+    let mut left = w;
+    while left != 0 {
+        let v = nodes::lowest(left);
+        left = nodes::without(left, v);
+        let next = better_of(&t, w, v, best);
         best = next;
     }
     best.node

@@ -3,13 +3,10 @@ use mathlib.Core.Path.{sym, _∙_, ap}
 use Prim.Native.Nat.{ℕ}
 use native.Mathlib.Omega.{arith}
 use borrow.Author.Tests.{not-true, not-false}
-use Rattle.labels.proofs.Better.{not-lower, not-passing, taken, gone, no-room, splitting, fits}
+use Rattle.labels.proofs.Better.{not-lower, not-passing, taken, no-room, splitting, fits}
 use borrow.Author.Needs.{needs}
 use Rattle.labels.proofs.better_of.Statement.{statement}
 use Rattle.labels.proofs.better_of.Tie as tie
-
-slice-aggregate-degree : tie.Need-slice-aggregate-degree
-slice-aggregate-degree c = search needs
 
 degree-requires : tie.Need-degree-requires
 degree-requires c κs = search needs
@@ -17,51 +14,30 @@ degree-requires c κs = search needs
 returns : tie.Need-returns
 returns c = not-lower _ _ _ _ (let e = c .before .before .degree .ensures in let l = c .if1 .taken in omega arith)
 
-has-requires : tie.Need-has-requires
-has-requires c κs = search needs
-
-returns-2 : tie.Need-returns-2
-returns-2 c = not-passing _ _ _ _ (gone _ _ _ _ (sym (c .before .has .ensures) ∙ not-true _ (c .if2 .taken)))
-
-slice-aggregate-room : tie.Need-slice-aggregate-room
-slice-aggregate-room c = search needs
-
 room-requires : tie.Need-room-requires
 room-requires c κs = search needs
 
-returns-3 : tie.Need-returns-3
-returns-3 c = not-passing _ _ _ _ (no-room _ _ _ _ (sym (c .before .room .ensures) ∙ not-true _ (c .if3 .taken)))
+returns-2 : tie.Need-returns-2
+returns-2 c = not-passing _ _ _ _ (no-room _ _ _ _ (sym (c .before .room .ensures) ∙ not-true _ (c .if2 .taken)))
 
 splits-requires : tie.Need-splits-requires
 splits-requires c κs = search needs
 
-returns-4 : tie.Need-returns-4
-returns-4 c = not-passing _ _ _ _ (splitting _ _ _ _ (sym (c .before .splits .ensures) ∙ c .if4 .taken))
+returns-3 : tie.Need-returns-3
+returns-3 c = not-passing _ _ _ _ (splitting _ _ _ _ (sym (c .before .splits .ensures) ∙ c .if3 .taken))
 
-returns-5 : tie.Need-returns-5
-returns-5 c =
-    let three = c .before .before in
-    let two = three .before .before .before in
-    let one = two .before .before in
+returns-4 : tie.Need-returns-4
+returns-4 c =
+    let two = c .before .before .before in
+    let one = two .before .before .before in
     let d = one .before .before in
+    let b = d .before .before in
     let e = d .degree .ensures in
-    ap (λ (x : ℕ). record { degree = x; node = d .before .before .args .v }) e
+    ap (λ (x : ℕ). record { degree = x; node = b .args .v }) e
     ∙ taken _ _ _ _ (let l = one .if1 .left in omega arith)
-    (fits _ _ _ _ (sym (two .before .has .ensures) ∙ not-false _ (two .if2 .left)) (sym (three .before .room .ensures) ∙ not-false _ (three .if3 .left))
-    (sym (c .before .splits .ensures) ∙ c .if4 .left))
+    (fits _ _ _ _ (b .pre) (sym (two .before .room .ensures) ∙ not-false _ (two .if2 .left)) (sym (c .before .splits .ensures) ∙ c .if3 .left))
 
 pub better-of-spec : {M : Type 1} → statement M
 better-of-spec =
     tie.close
-    (tie.spec
-    slice-aggregate-degree
-    degree-requires
-    returns
-    has-requires
-    returns-2
-    slice-aggregate-room
-    room-requires
-    returns-3
-    splits-requires
-    returns-4
-    returns-5)
+    (tie.spec degree-requires returns room-requires returns-2 splits-requires returns-3 returns-4)
