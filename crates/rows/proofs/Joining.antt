@@ -8,13 +8,14 @@ use lib.Seq.{getD-set-same, getD-set-other}
 use Rattle.finite.specs.Truth.{_&_, _or_, non, same, below}
 use Rattle.finite.specs.Search.{least}
 use Rattle.finite.specs.Sets.{has, setOf, without}
-use Rattle.finite.proofs.Truth.{no-tf, bcase, iff, refute, both, and-l, and-r, and-true, and-false, true-and, or-l, or-r, or-case, true-non, non-true, same-eq, same-ne, eq-same, ne-same, lt-below, le-below}
-use Rattle.finite.proofs.Search.{least-cong}
+use Rattle.finite.proofs.Truth.{no-tf, bcase, iff, refute, both, and-l, and-r, and-true, and-false, true-and, or-l, or-r, or-case, true-non, non-true, non-false, same-eq, same-ne, eq-same, ne-same, below-lt, lt-below, le-below}
+use Rattle.finite.proofs.Search.{least-fact, least-cong}
 use Rattle.finite.proofs.Sets.{has-0, has-lt, has-setOf, setOf-lt, set-ext, without-in, without-ne, in-without}
 use Rattle.finite.proofs.Lists.{tabulate-ext}
 use Rattle.nodes.specs.Limits.{maxNodes}
 use Rattle.nodes.proofs.Words.{lowest-in}
-use Rattle.rows.specs.Steps.{pick, leadOf, halfOf}
+use Rattle.network.specs.Table.{edgeOf}
+use Rattle.rows.specs.Steps.{pick, leadOf, linkedIn, linkedOf, halfOf}
 use Rattle.rows.specs.declared.Side.{Side}
 
 pub side-ext : {a b : Side} → a .members ≡ b .members → a .entries ≡ b .entries → a ≡ b
@@ -72,10 +73,25 @@ pub record Halving (lead : ℕ → ℕ) (m : ℕ) (e : List ℕ) (members : ℕ)
   pub joins : (k : ℕ) → k < maxNodes → has members k ≡ has m k or joined lead m left k
   pub takes : (k : ℕ) → k < maxNodes → getD entries k 0 ≡ pick (joined lead m left k) (lead k) (getD e k 0)
 
--- all are left that have not joined
-pub halving-none : (lead : ℕ → ℕ) (m : ℕ) {e : List ℕ} {all left : ℕ} → m < 2 ^ maxNodes → length e ≡ maxNodes → all ≡ setOf maxNodes (λ v. below v maxNodes)
-    → left ≡ setOf maxNodes (λ v. has all v & non (has m v)) → Halving lead m e m e left
-halving-none lead m {e} {all} {left} word size f g = record {
+-- from a node that is not linked no hop leads
+pub idle : (up down : List ℕ) (free falling k : ℕ) {linked : ℕ} → linked ≡ linkedOf up down → k < maxNodes → has linked k ≡ false
+    → below (leadOf up down free falling k) maxNodes ≡ false
+unfolding linkedOf linkedIn leadOf edgeOf
+idle up down free falling k {linked} e l f =
+    refute _ (λ t.
+    or-case _ _ (least-fact maxNodes _ (below-lt _ _ t)) (λ h. no-tf (and-l _ _ h) (no-bit up (λ x. or-l _ x) _)) (λ h. no-tf (and-l _ _ h) (no-bit down (λ x. or-r _ x) _)))
+  where
+    none : non (same (getD up k 0) 0) or non (same (getD down k 0) 0) ≡ false
+    none = sym (ap (λ (x : ℕ). has x k) e ∙ has-setOf maxNodes _ k l) ∙ f
+
+    no-bit : (t : List ℕ) → (non (same (getD t k 0) 0) ≡ true → non (same (getD up k 0) 0) or non (same (getD down k 0) 0) ≡ true) → (u : ℕ)
+        → has (getD t k 0) u ≡ false
+    no-bit t g u = ap (λ (x : ℕ). has x u) (same-eq _ _ (non-false _ (refute _ (λ x. no-tf (g x) none)))) ∙ has-0 u
+
+-- those are left that are linked and have not joined
+pub halving-none : (up down : List ℕ) (free falling m : ℕ) {e : List ℕ} {linked left : ℕ} → m < 2 ^ maxNodes → length e ≡ maxNodes → linked ≡ linkedOf up down
+    → left ≡ setOf maxNodes (λ v. has linked v & non (has m v)) → Halving (leadOf up down free falling) m e m e left
+halving-none up down free falling m {e} {linked} {left} word size f g = record {
   word = word;
   size = size;
   rest = rw g (setOf-lt maxNodes _);
@@ -84,18 +100,16 @@ halving-none lead m {e} {all} {left} word size f g = record {
   takes = λ k l. rw (none k l);
 }
   where
-    in-left : (k : ℕ) → k < maxNodes → has left k ≡ has all k & non (has m k)
+    in-left : (k : ℕ) → k < maxNodes → has left k ≡ has linked k & non (has m k)
     in-left k l = ap (λ (x : ℕ). has x k) g ∙ has-setOf maxNodes _ k l
 
-    in-all : (k : ℕ) → k < maxNodes → has all k ≡ true
-    in-all k l = ap (λ (x : ℕ). has x k) f ∙ has-setOf maxNodes _ k l ∙ lt-below l
-
-    none : (k : ℕ) → k < maxNodes → joined lead m left k ≡ false
+    none : (k : ℕ) → k < maxNodes → joined (leadOf up down free falling) m left k ≡ false
     none k l =
-        bcase (has left k) (not-passed lead m left k)
+        bcase (has left k) (not-passed _ m left k)
         (λ t.
-        passed lead m left k t
-        ∙ refute _ (λ h. no-tf (in-left k l ∙ both (in-all k l) (and-r _ _ h)) t))
+        passed _ m left k t
+        ∙ refute _ (λ h.
+        bcase (has linked k) (λ i. no-tf (in-left k l ∙ both i (and-r _ _ h)) t) (λ i. no-tf (and-l _ _ h) (idle up down free falling k f l i))))
 
 -- the lowest node is passed
 module _ {lead : ℕ → ℕ} {m : ℕ} {e : List ℕ} {members : ℕ} {entries : List ℕ} {left v u next : ℕ} (h : Halving lead m e members entries left)

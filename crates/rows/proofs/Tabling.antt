@@ -36,13 +36,13 @@ module _ (edge : ℕ → ℕ → Bool) (label : ℕ → ℕ) where
   }
 
   -- the words of all nodes
-  pub up-length : {m d : ℕ} {up down free falling : List ℕ} → Tabling m up down free falling d → length up ≡ maxNodes
+  pub up-length : {up : List ℕ} → up ≡ waysOf edge label .up → length up ≡ maxNodes
   unfolding waysOf tableFrom
-  up-length h = rw (h .ups) (tabulate-length maxNodes _)
+  up-length e = rw e (tabulate-length maxNodes _)
 
-  pub down-length : {m d : ℕ} {up down free falling : List ℕ} → Tabling m up down free falling d → length down ≡ maxNodes
+  pub down-length : {down : List ℕ} → down ≡ waysOf edge label .down → length down ≡ maxNodes
   unfolding waysOf tableFrom
-  down-length h = rw (h .downs) (tabulate-length maxNodes _)
+  down-length e = rw e (tabulate-length maxNodes _)
 
   pub tabling-more : {m d : ℕ} {up down free falling free′ falling′ : List ℕ} {c : Column} → Tabling m up down free falling d
       → OfWays up down (λ edge label. c ≡ columnOf edge label d) → free′ ≡ placedOf m d (c .free) free → falling′ ≡ placedOf m d (c .falling) falling

@@ -38,6 +38,14 @@ startOf t =
 unfoldable pub leadOf : List ℕ → List ℕ → ℕ → ℕ → ℕ → ℕ
 leadOf up down free falling v = least maxNodes (λ u. edgeOf up v u & has free u or edgeOf down v u & has falling u)
 
+-- some hop leads from v
+unfoldable pub linkedIn : List ℕ → List ℕ → ℕ → Bool
+linkedIn up down v = non (same (getD up v 0) 0) or non (same (getD down v 0) 0)
+
+-- the nodes from which some hop leads
+unfoldable pub linkedOf : List ℕ → List ℕ → ℕ
+linkedOf up down = setOf maxNodes (linkedIn up down)
+
 -- one class of a round: every node with such a hop joins, and has the lowest for its entry
 unfoldable pub halfOf : List ℕ → List ℕ → ℕ → ℕ → Side → Side
 halfOf up down free falling side = record {

@@ -4,11 +4,11 @@ ghost use Prim.Native.Nat.{_<_, _≤_, min};
 ghost use lib.ListN.{getD};
 ghost use Rattle.finite.specs.Truth.{_&_, _or_, same};
 ghost use Rattle.finite.specs.Search.{least};
-ghost use Rattle.finite.specs.Sets.{has};
+ghost use Rattle.finite.specs.Sets.{has, setOf};
 ghost use Rattle.nodes.specs.Limits.{maxNodes};
 ghost use Rattle.network.specs.Table.{edgeOf};
 ghost use Rattle.rows.specs.Tables.{tablesOf};
-ghost use Rattle.rows.specs.Steps.{waysOf, startOf, halfOf, roundOf, rounds, searchAt, OfWays, columnOf, placedOf};
+ghost use Rattle.rows.specs.Steps.{waysOf, startOf, linkedIn, linkedOf, halfOf, roundOf, rounds, searchAt, OfWays, columnOf, placedOf};
 ghost use Rattle.rows.specs.Row.{rowKnown, rowIn, hopIn};
 use nodes::MAX_NODES;
 use refusal::Refusal;
@@ -76,13 +76,41 @@ fn lead(up: u64, down: u64, free: u64, falling: u64) -> usize
     nodes::lowest(nodes::union(nodes::common(up, free), nodes::common(down, falling)))
 }
 
-// One class of a round: every node that has not joined yet joins where a hop leads from it. All tests go by the sets free and falling.
-fn half(up: &[u64], down: &[u64], free: u64, falling: u64, side: Side) -> Side
+// The set of v alone where some hop leads from it, else the empty set.
+fn one_linked(up: &[u64], down: &[u64], v: usize) -> u64
+    ensures { λ r. ⌜ r ≡ setOf maxNodes (λ a. same v a & linkedIn (now (up .entry)) (now (down .entry)) a) ⌝ }
+{
+    if network::row(up, v) != 0 {
+        return nodes::one(v);
+    }
+    if network::row(down, v) != 0 {
+        return nodes::one(v);
+    }
+    0
+}
+
+// The nodes from which some hop leads. Any other joins no search but that for itself.
+fn linked_nodes(up: &[u64], down: &[u64]) -> u64
+    ensures { λ r. ⌜ r ≡ linkedOf (now (up .entry)) (now (down .entry)) ⌝ }
+{
+    let mut found = 0u64;
+    let mut left = nodes::first(MAX_NODES);
+    while left != 0 {
+        let v = nodes::lowest(left);
+        found = nodes::union(found, one_linked(up, down, v));
+        left = nodes::without(left, v);
+    }
+    found
+}
+
+// One class of a round: every linked node that has not joined yet joins where a hop leads from it. All tests go by the sets free and falling.
+fn half(up: &[u64], down: &[u64], linked: u64, free: u64, falling: u64, side: Side) -> Side
+    requires { ⌜ linked ≡ linkedOf (now up) (now down) ⌝ }
     ensures { λ r. ⌜ r ≡ halfOf (now (up .entry)) (now (down .entry)) free falling side ⌝ }
 {
     let mut members = side.members;
     let mut entries = side.entries;
-    let mut left = nodes::difference(nodes::first(MAX_NODES), side.members);
+    let mut left = nodes::difference(linked, side.members);
     while left != 0 {
         let v = nodes::lowest(left);
         left = nodes::without(left, v);
@@ -96,13 +124,14 @@ fn half(up: &[u64], down: &[u64], free: u64, falling: u64, side: Side) -> Side
 }
 
 // One round. What falls already can't rise: it has no free set to rise into.
-fn round(up: &[u64], down: &[u64], s: Search) -> Search
+fn round(up: &[u64], down: &[u64], linked: u64, s: Search) -> Search
+    requires { ⌜ linked ≡ linkedOf (now up) (now down) ⌝ }
     ensures { λ r. ⌜ r ≡ roundOf (now (up .entry)) (now (down .entry)) s ⌝ }
 {
     let a = s.free;
     let b = s.falling;
-    let free = half(up, down, a.members, b.members, a);
-    let falling = half(up, down, 0, b.members, b);
+    let free = half(up, down, linked, a.members, b.members, a);
+    let falling = half(up, down, linked, 0, b.members, b);
     Search { free, falling }
 }
 
@@ -121,13 +150,13 @@ fn still(s: Search, next: Search) -> bool
 }
 
 // Rounds until no node joins.
-fn search_for(up: &[u64], down: &[u64], t: usize) -> Search
-    requires { ⌜ t < maxNodes ⌝ }
+fn search_for(up: &[u64], down: &[u64], linked: u64, t: usize) -> Search
+    requires { ⌜ (t < maxNodes) × (linked ≡ linkedOf (now up) (now down)) ⌝ }
     ensures { λ r. ⌜ OfWays (now (up .entry)) (now (down .entry)) (λ edge label. r ≡ searchAt edge label t rounds) ⌝ }
 {
     let mut s = start(t);
     for k in 0..ROUNDS {
-        let next = round(up, down, s);
+        let next = round(up, down, linked, s);
         if still(s, next) {
             return s;
         }
@@ -142,11 +171,11 @@ struct Column {
     falling: [u8; MAX_NODES],
 }
 
-fn column_of(up: &[u64], down: &[u64], t: usize) -> Column
-    requires { ⌜ t < maxNodes ⌝ }
+fn column_of(up: &[u64], down: &[u64], linked: u64, t: usize) -> Column
+    requires { ⌜ (t < maxNodes) × (linked ≡ linkedOf (now up) (now down)) ⌝ }
     ensures { λ r. ⌜ OfWays (now (up .entry)) (now (down .entry)) (λ edge label. r ≡ columnOf edge label t) ⌝ }
 {
-    let s = search_for(up, down, t);
+    let s = search_for(up, down, linked, t);
     let a = s.free;
     let b = s.falling;
     let free = a.entries;
@@ -180,10 +209,11 @@ pub fn tables_of(t: &[u64], labels: &[u8], n: usize) -> Tables
     let ways = ways_of(t, labels);
     let up = ways.up;
     let down = ways.down;
+    let linked = linked_nodes(&up, &down);
     let mut free = [0u8; TABLE];
     let mut falling = [0u8; TABLE];
     for d in 0..m {
-        let c = column_of(&up, &down, d);
+        let c = column_of(&up, &down, linked, d);
         let a = c.free;
         let b = c.falling;
         let more = placed(free, a, m, d);

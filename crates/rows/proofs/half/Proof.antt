@@ -12,13 +12,10 @@ use Rattle.rows.proofs.half.Statement.{statement}
 use Rattle.rows.proofs.half.Tie as tie
 
 abbrev Inv-loop : tie.InvT-loop
-Inv-loop up down free falling members₀ entries₀ left₀ members entries left = Halving (leadOf up down free falling) members₀ entries₀ members entries left
+Inv-loop up down linked free falling members₀ entries₀ left₀ members entries left = Halving (leadOf up down free falling) members₀ entries₀ members entries left
 
 abbrev μ-loop : tie.MeasureT-loop
-μ-loop up down free falling members₀ entries₀ left₀ members entries left = left
-
-first-requires : tie.Need-first-requires Inv-loop μ-loop
-first-requires c κs = tt
+μ-loop up down linked free falling members₀ entries₀ left₀ members entries left = left
 
 difference-requires : tie.Need-difference-requires Inv-loop μ-loop
 difference-requires c κs = tt
@@ -26,9 +23,9 @@ difference-requires c κs = tt
 -- the array that the struct holds has its length from what owning the struct tells
 loop-holds : tie.Need-loop-holds Inv-loop μ-loop
 loop-holds c =
-    let b = c .before .before .before .before .before in
-    let side = b .good .1 .1 .1 .1 .0 in
-    halving-none _ _ (omega arith) (sym (length-map (b .args .side .entries) (λ x. x)) ∙ side .1 .1 .1 .0 .1 .0 .1) (c .before .first .ensures) (c .difference .ensures)
+    let b = c .before .before .before .before in
+    let side = b .good .1 .1 .1 .1 .1 .0 in
+    halving-none _ _ _ _ _ (omega arith) (sym (length-map (b .args .side .entries) (λ x. x)) ∙ side .1 .1 .1 .0 .1 .0 .1) (b .pre) (c .difference .ensures)
 
 lowest-requires : tie.Need-lowest-requires Inv-loop μ-loop
 lowest-requires c κs = tt
@@ -67,7 +64,7 @@ loop-less c = less (c .before .before .before .before .before)
 -- the hop that leads from the node
 leads : (c : tie.After-lead Inv-loop μ-loop) →
     let w = c .before .before .before in
-    let a = w .before .before .before .before .before .before .before .before .before .args in
+    let a = w .before .before .before .before .before .before .before .before .args in
     c .lead .result ≡ leadOf (a .up .now) (a .down .now) (a .free) (a .falling) (w .before .lowest .result)
 unfolding leadOf edgeOf
 leads c = c .lead .ensures ∙ rw (c .before .before .row .ensures, c .before .row2 .ensures)
@@ -99,7 +96,6 @@ half-spec =
     (tie.spec
     Inv-loop
     μ-loop
-    first-requires
     difference-requires
     loop-holds
     lowest-requires

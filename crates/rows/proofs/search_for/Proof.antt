@@ -8,19 +8,19 @@ use Rattle.rows.proofs.search_for.Statement.{statement}
 use Rattle.rows.proofs.search_for.Tie as tie
 
 abbrev Inv-loop : tie.InvT-loop
-Inv-loop up down t s₀ k₀ s k = Searching t up down s k × (k ≤ rounds)
+Inv-loop up down linked t s₀ k₀ s k = Searching t up down s k × (k ≤ rounds)
 
 abbrev μ-loop : tie.MeasureT-loop
-μ-loop up down t s₀ k₀ s k = rounds - k
+μ-loop up down linked t s₀ k₀ s k = rounds - k
 
 start-requires : tie.Need-start-requires Inv-loop μ-loop
-start-requires c κs = c .before .before .pre
+start-requires c κs = c .before .before .pre .0
 
 loop-holds : tie.Need-loop-holds Inv-loop μ-loop
-loop-holds c = (searching-none (c .before .before .before .pre) (c .start .ensures), omega arith)
+loop-holds c = (searching-none (c .before .before .before .pre .0) (c .start .ensures), omega arith)
 
 round-requires : tie.Need-round-requires Inv-loop μ-loop
-round-requires c κs = tt
+round-requires c κs = c .before .before .before .before .before .pre .1
 
 still-requires : tie.Need-still-requires Inv-loop μ-loop
 still-requires c κs = tt

@@ -1,19 +1,20 @@
 -- `rows::tables_of` meets its contract. The invariant: the columns of the destinations below d are placed.
-use mathlib.Core.Path.{_≡_, sym}
+use mathlib.Core.Path.{_≡_, sym, ap}
 use Prim.Native.Nat.{_-_, _≤_, min}
 use native.Mathlib.Omega.{arith}
 use lib.ListN.{getD}
 use Rattle.nodes.specs.Limits.{maxNodes}
 use Rattle.network.specs.Table.{edgeOf}
+use Rattle.rows.specs.declared.Ways.{Ways}
 use Rattle.rows.proofs.Tabling.{Tabling, tabling-none, tabling-more, tabling-all, up-length, down-length}
 use Rattle.rows.proofs.tables_of.Statement.{statement}
 use Rattle.rows.proofs.tables_of.Tie as tie
 
 abbrev Inv-loop : tie.InvT-loop
-Inv-loop t labels n m up down free₀ falling₀ d₀ free falling d = Tabling (edgeOf t) (λ u. getD labels u 0) m up down free falling d × (m ≡ min n maxNodes) × (d ≤ m)
+Inv-loop t labels n m up down linked free₀ falling₀ d₀ free falling d = Tabling (edgeOf t) (λ u. getD labels u 0) m up down free falling d × (m ≡ min n maxNodes) × (d ≤ m)
 
 abbrev μ-loop : tie.MeasureT-loop
-μ-loop t labels n m up down free₀ falling₀ d₀ free falling d = m - d
+μ-loop t labels n m up down linked free₀ falling₀ d₀ free falling d = m - d
 
 capped-requires : tie.Need-capped-requires Inv-loop μ-loop
 capped-requires c κs = tt
@@ -21,20 +22,29 @@ capped-requires c κs = tt
 ways-of-requires : tie.Need-ways-of-requires Inv-loop μ-loop
 ways-of-requires c κs = tt
 
+slice-aggregate-linked-nodes : tie.Need-slice-aggregate-linked-nodes Inv-loop μ-loop
+slice-aggregate-linked-nodes c = sym (up-length _ _ (ap (λ (w : Ways). w .up) (c .before .before .before .ways-of .ensures)))
+
+slice-aggregate-linked-nodes-2 : tie.Need-slice-aggregate-linked-nodes-2 Inv-loop μ-loop
+slice-aggregate-linked-nodes-2 c = sym (down-length _ _ (ap (λ (w : Ways). w .down) (c .before .before .before .before .ways-of .ensures)))
+
+linked-nodes-requires : tie.Need-linked-nodes-requires Inv-loop μ-loop
+linked-nodes-requires c κs = tt
+
 loop-holds : tie.Need-loop-holds Inv-loop μ-loop
 loop-holds c =
-    let w = c .before .before in
+    let w = c .before .before .before .before .before in
     let e = w .before .capped .ensures in
     (tabling-none _ _ (omega arith) (w .ways-of .ensures), e, omega arith)
 
 slice-aggregate-column-of : tie.Need-slice-aggregate-column-of Inv-loop μ-loop
-slice-aggregate-column-of c = sym (up-length _ _ (c .before .before .loop .inv .0))
+slice-aggregate-column-of c = sym (up-length _ _ (c .before .before .loop .inv .0 .ups))
 
 slice-aggregate-column-of-2 : tie.Need-slice-aggregate-column-of-2 Inv-loop μ-loop
-slice-aggregate-column-of-2 c = sym (down-length _ _ (c .before .before .before .loop .inv .0))
+slice-aggregate-column-of-2 c = sym (down-length _ _ (c .before .before .before .loop .inv .0 .downs))
 
 column-of-requires : tie.Need-column-of-requires Inv-loop μ-loop
-column-of-requires c κs = omega arith
+column-of-requires c κs = (omega arith, c .before .before .before .before .linked-nodes .ensures)
 
 placed-requires : tie.Need-placed-requires Inv-loop μ-loop
 placed-requires c κs = omega arith
@@ -68,6 +78,9 @@ tables-of-spec =
     μ-loop
     capped-requires
     ways-of-requires
+    slice-aggregate-linked-nodes
+    slice-aggregate-linked-nodes-2
+    linked-nodes-requires
     loop-holds
     slice-aggregate-column-of
     slice-aggregate-column-of-2
