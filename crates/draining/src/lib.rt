@@ -27,9 +27,27 @@ fn choice(record: Record, look: usize) -> usize
     ensures { λ r. ⌜ r ≡ chosen «record» look ⌝ }
 {
     let messages = machine::few(record.messages);
+    let nodes = record.nodes;
+    let free = record.free;
+    let falling = record.falling;
+    let targets = record.targets;
+    let heads = record.heads;
+    let classes = record.classes;
+    let delivered = record.delivered;
+    let holders = record.holders;
     for k in 0..messages {
         let m = (look + k) % messages;
-        if machine::is_ready(record, m) {
+        if machine::is_ready_in(
+            nodes,
+            &free,
+            &falling,
+            &targets,
+            &heads,
+            &classes,
+            &delivered,
+            &holders,
+            m,
+        ) {
             return m;
         }
     }

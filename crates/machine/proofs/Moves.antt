@@ -1,7 +1,7 @@
 -- What a move answers and leaves, case by case.
 use mathlib.Core.Path.{_≡_, refl, _∙_, ap}
 use mathlib.Core.Bool.{Bool, true, false}
-use mathlib.Core.List.{List}
+use mathlib.Core.List.{List, []}
 use Prim.Native.Nat.{ℕ, _+_, _-_, _<_, _≤_}
 use native.Mathlib.Numerals.{add-one}
 use lib.ListN.{getD, set}
@@ -12,8 +12,9 @@ use Rattle.machine.specs.Sizes.{maxMessages, maxPairs}
 use Rattle.machine.specs.declared.Record.{Record}
 use Rattle.machine.specs.declared.Answer.the-variants.{Already, Moved, Blocked, Delivered}
 use Rattle.machine.specs.declared.Stepped.{Stepped}
-use Rattle.machine.specs.Step.{head, target, isFalling, isDelivered, tableOf, nextNode, nextChannel, holder, classAfter, counted, released, moved, arrived, with, refusedOf, stepOf}
+use Rattle.machine.specs.Step.{head, target, isFalling, isDelivered, place, tableOf, nextNode, nextChannel, holder, classAfter, counted, released, moved, arrived, with, refusedOf, stepOf}
 use Rattle.machine.specs.Runs.{successful}
+use Rattle.machine.specs.Ready.{told}
 
 module _ (r : Record) (m : ℕ) where
   pub table-falling : isFalling r m ≡ true → tableOf r m ≡ r .falling
@@ -23,6 +24,19 @@ module _ (r : Record) (m : ℕ) where
   pub table-free : isFalling r m ≡ false → tableOf r m ≡ r .free
   unfolding tableOf
   table-free h = rw (h, tableOf)
+
+  pub next-falling : isFalling r m ≡ true → nextNode r m ≡ getD (r .falling) (place r m) 0
+  unfolding nextNode
+  next-falling h = ap (λ (t : List ℕ). getD t (place r m) 0) (table-falling h)
+
+  pub next-free : isFalling r m ≡ false → nextNode r m ≡ getD (r .free) (place r m) 0
+  unfolding nextNode
+  next-free h = ap (λ (t : List ℕ). getD t (place r m) 0) (table-free h)
+
+  -- what tells the next node: neither marks nor holders
+  pub next-told : nextNode (told (r .nodes) (r .free) (r .falling) (r .targets) (r .heads) (r .classes) [] []) m ≡ nextNode r m
+  unfolding nextNode tableOf isFalling
+  next-told = refl
 
   abbrev falls-next : Bool
   falls-next = below (getD (r .labels) (nextNode r m) 0) (getD (r .labels) (head r m) 0)

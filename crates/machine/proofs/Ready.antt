@@ -1,5 +1,5 @@
 -- A message is ready exactly when a move of it succeeds; while some message of a run is undelivered one of them is ready.
-use mathlib.Core.Path.{_≡_, sym, _∙_}
+use mathlib.Core.Path.{_≡_, refl, sym, _∙_}
 use mathlib.Core.Bool.{Bool, true, false}
 use mathlib.Core.List.{List}
 use mathlib.Core.Logic.{⊎-elim}
@@ -12,9 +12,9 @@ use Rattle.finite.proofs.Search.{find, every-all, all-every}
 use Rattle.machine.specs.Sizes.{maxMessages}
 use Rattle.machine.specs.declared.Record.{Record}
 use Rattle.machine.specs.declared.Stepped.{Stepped}
-use Rattle.machine.specs.Step.{head, target, isDelivered, nextChannel, holder, stepOf}
+use Rattle.machine.specs.Step.{head, target, isFalling, isDelivered, tableOf, nextNode, nextChannel, holder, stepOf}
 use Rattle.machine.specs.Runs.{Fabric, Listed, messagesIn, Reached, successful}
-use Rattle.machine.specs.Ready.{messagesOf, ready, allDelivered}
+use Rattle.machine.specs.Ready.{messagesOf, ready, allDelivered, told}
 use Rattle.machine.proofs.Moves.{Case, unknown, already, arrives, waits, moves, step-case}
 use Rattle.machine.proofs.State.{few-messages}
 use Rattle.machine.proofs.Reached.{reached-state}
@@ -33,6 +33,11 @@ module _ (r : Record) (m : ℕ) where
     pub ready-next : same (head r m) (target r m) ≡ false → same (holder r (nextChannel r m)) 0 ≡ ready r m
     unfolding ready non _&_ _or_
     ready-next e = rw (d, ready, e)
+
+  -- the arrays that tell whether a message is ready tell it of every record that has them
+  pub ready-told : ready (told (r .nodes) (r .free) (r .falling) (r .targets) (r .heads) (r .classes) (r .delivered) (r .holders)) m ≡ ready r m
+  unfolding ready isDelivered nextNode tableOf isFalling
+  ready-told = refl
 
   -- ready: a move of it is successful
   pub ready-moves : m < messagesOf r → ready r m ≡ successful (stepOf r m .answer)

@@ -16,6 +16,7 @@ step-tight r m x y p q = let e = p ∙ sym q in (ap (λ (z : Stepped). z .answer
 pub begun-tight : (n : ℕ) (labels free falling list : List ℕ) (x y : Record) → x ≡ begunOf n labels free falling list → y ≡ begunOf n labels free falling list → x ≡ y
 begun-tight n labels free falling list x y p q = p ∙ sym q
 
+-- of `is_ready` at a record, of `is_ready_in` at what is told of one
 pub ready-tight : (r : Record) (m : ℕ) (x y : Bool) → x ≡ ready r m → y ≡ ready r m → x ≡ y
 ready-tight r m x y p q = p ∙ sym q
 

@@ -1,5 +1,6 @@
 -- Which messages can move, and whether all are delivered.
 use mathlib.Core.Bool.{Bool}
+use mathlib.Core.List.{List, []}
 use Prim.Native.Nat.{ℕ, min}
 use Rattle.finite.specs.Truth.{_&_, _or_, non, same}
 use Rattle.finite.specs.Search.{all}
@@ -18,3 +19,19 @@ ready r m = non (isDelivered r m) & (same (head r m) (target r m) or same (holde
 -- "every message is delivered"
 unfoldable pub allDelivered : Record → Bool
 allDelivered r = all (messagesOf r) (isDelivered r)
+
+-- a record of which only that is told what makes a message ready
+abbrev pub told : ℕ → List ℕ → List ℕ → List ℕ → List ℕ → List ℕ → List ℕ → List ℕ → Record
+told nodes free falling targets heads classes delivered holders = record {
+  nodes = nodes;
+  messages = 0;
+  moves = 0;
+  labels = [];
+  free = free;
+  falling = falling;
+  targets = targets;
+  heads = heads;
+  classes = classes;
+  delivered = delivered;
+  holders = holders;
+}

@@ -27,10 +27,10 @@ pub fn put(bytes: [u8; MAX_MESSAGES], i: usize, x: u8) -> [u8; MAX_MESSAGES]
 }
 
 // The holder of channel c.
-pub fn held(holders: [u16; MAX_PAIRS], c: usize) -> u16
-    ensures { λ r. ⌜ r ≡ getD holders c 0 ⌝ }
+pub fn held(holders: &[u16], c: usize) -> u16
+    ensures { λ r. ⌜ r ≡ getD (now (holders .entry)) c 0 ⌝ }
 {
-    if c < MAX_PAIRS { holders[c] } else { 0 }
+    if c < holders.len() { holders[c] } else { 0 }
 }
 
 // The holders once channel c is taken.

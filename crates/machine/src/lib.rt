@@ -6,7 +6,7 @@ ghost use Rattle.finite.specs.Lists.{tabulate};
 ghost use Rattle.machine.specs.Sizes.{maxMessages};
 ghost use Rattle.machine.specs.Step.{head, holder, counted, moved, arrived, refusedOf, stepOf};
 ghost use Rattle.machine.specs.Fresh.{begunOf};
-ghost use Rattle.machine.specs.Ready.{ready, allDelivered};
+ghost use Rattle.machine.specs.Ready.{told, ready, allDelivered};
 
 mod ahead; // ahead.rt: where a message is, and what is ahead of it
 mod arrays; // arrays.rt: reads and stores in the record's arrays
@@ -164,17 +164,53 @@ fn ends(list: &[u8], first: usize) -> [u8; MAX_MESSAGES]
     nodes
 }
 
+// Is a message undelivered and unblocked, by the arrays that tell it?
+pub fn is_ready_in(
+    nodes: usize,
+    free: &[u8],
+    falling: &[u8],
+    targets: &[u8],
+    heads: &[u8],
+    classes: &[u8],
+    delivered: &[u8],
+    holders: &[u16],
+    message: usize,
+) -> bool
+    ensures { λ r. ⌜ r ≡ ready (told nodes (now (free .entry)) (now (falling .entry)) (now (targets .entry)) (now (heads .entry)) (now (classes .entry)) (now (delivered .entry)) (now (holders .entry))) message ⌝ }
+{
+    if ahead::marked(delivered, message) {
+        return false;
+    }
+    let head = arrays::byte(heads, message);
+    if head == arrays::byte(targets, message) {
+        return true;
+    }
+    let next = ahead::next_in(nodes, free, falling, targets, heads, classes, message);
+    arrays::held(holders, ahead::channel(head, next)) == 0
+}
+
 // Is a message undelivered and unblocked? For a message that is there: does a move of it succeed?
 pub fn is_ready(record: Record, message: usize) -> bool
     ensures { λ r. ⌜ r ≡ ready «record» message ⌝ }
 {
-    if ahead::is_delivered(record, message) {
-        return false;
-    }
-    if ahead::is_there(record, message) {
-        return true;
-    }
-    ahead::next_holder(record, message) == 0
+    let free = record.free;
+    let falling = record.falling;
+    let targets = record.targets;
+    let heads = record.heads;
+    let classes = record.classes;
+    let delivered = record.delivered;
+    let holders = record.holders;
+    is_ready_in(
+        record.nodes,
+        &free,
+        &falling,
+        &targets,
+        &heads,
+        &classes,
+        &delivered,
+        &holders,
+        message,
+    )
 }
 
 // Is every message delivered?
@@ -182,8 +218,9 @@ pub fn all_delivered(record: Record) -> bool
     ensures { λ r. ⌜ r ≡ allDelivered «record» ⌝ }
 {
     let messages = few(record.messages);
+    let delivered = record.delivered;
     for m in 0..messages {
-        if !ahead::is_delivered(record, m) {
+        if !ahead::marked(&delivered, m) {
             return false;
         }
     }

@@ -1,36 +1,47 @@
 -- `machine::is_ready` meets its contract.
-use mathlib.Core.Path.{sym, _∙_, ap}
-use Prim.Native.Nat.{ℕ}
-use Rattle.finite.specs.Truth.{same}
-use Rattle.machine.proofs.Ready.{ready-never, ready-there, ready-next}
+use mathlib.Core.Path.{_∙_}
+use Rattle.machine.proofs.Ready.{ready-told}
 use borrow.Author.Needs.{needs}
 use Rattle.machine.proofs.is_ready.Statement.{statement}
 use Rattle.machine.proofs.is_ready.Tie as tie
 
-is-delivered-requires : tie.Need-is-delivered-requires
-is-delivered-requires c κs = search needs
+slice-aggregate-is-ready-in : tie.Need-slice-aggregate-is-ready-in
+slice-aggregate-is-ready-in c = search needs
+
+slice-aggregate-is-ready-in-2 : tie.Need-slice-aggregate-is-ready-in-2
+slice-aggregate-is-ready-in-2 c = search needs
+
+slice-aggregate-is-ready-in-3 : tie.Need-slice-aggregate-is-ready-in-3
+slice-aggregate-is-ready-in-3 c = search needs
+
+slice-aggregate-is-ready-in-4 : tie.Need-slice-aggregate-is-ready-in-4
+slice-aggregate-is-ready-in-4 c = search needs
+
+slice-aggregate-is-ready-in-5 : tie.Need-slice-aggregate-is-ready-in-5
+slice-aggregate-is-ready-in-5 c = search needs
+
+slice-aggregate-is-ready-in-6 : tie.Need-slice-aggregate-is-ready-in-6
+slice-aggregate-is-ready-in-6 c = search needs
+
+slice-aggregate-is-ready-in-7 : tie.Need-slice-aggregate-is-ready-in-7
+slice-aggregate-is-ready-in-7 c = search needs
+
+is-ready-in-requires : tie.Need-is-ready-in-requires
+is-ready-in-requires c κs = search needs
 
 returns : tie.Need-returns
-returns c = ready-never _ _ (sym (c .before .is-delivered .ensures) ∙ c .if1 .taken)
-
-is-there-requires : tie.Need-is-there-requires
-is-there-requires c κs = search needs
-
-returns-2 : tie.Need-returns-2
-returns-2 c =
-    let d = c .before .before in
-    ready-there _ _ (sym (d .before .is-delivered .ensures) ∙ d .if1 .left) (sym (c .before .is-there .ensures) ∙ c .if2 .taken)
-
-next-holder-requires : tie.Need-next-holder-requires
-next-holder-requires c κs = search needs
-
-returns-3 : tie.Need-returns-3
-unfolding same
-returns-3 c =
-    let t = c .before in
-    let d = t .before .before in
-    ap (λ (x : ℕ). same x 0) (c .next-holder .ensures)
-    ∙ ready-next _ _ (sym (d .before .is-delivered .ensures) ∙ d .if1 .left) (sym (t .before .is-there .ensures) ∙ t .if2 .left)
+returns c = c .is-ready-in .ensures ∙ ready-told _ _
 
 pub is-ready-spec : {M : Type 1} → statement M
-is-ready-spec = tie.close (tie.spec is-delivered-requires returns is-there-requires returns-2 next-holder-requires returns-3)
+is-ready-spec =
+    tie.close
+    (tie.spec
+    slice-aggregate-is-ready-in
+    slice-aggregate-is-ready-in-2
+    slice-aggregate-is-ready-in-3
+    slice-aggregate-is-ready-in-4
+    slice-aggregate-is-ready-in-5
+    slice-aggregate-is-ready-in-6
+    slice-aggregate-is-ready-in-7
+    is-ready-in-requires
+    returns)
