@@ -1,6 +1,6 @@
 // The calls on images: read, write, build. Each checks in 01's order, and writes its result whole or not at all.
 ghost use mathlib.Core.Path.{_≡_};
-ghost use mathlib.Core.Bool.{Bool, true, false};
+ghost use mathlib.Core.Bool.{true, false};
 ghost use Prim.Native.Nat.{_≤_};
 ghost use lib.ListN.{length};
 ghost use Rattle.nodes.specs.Limits.{maxNodes};

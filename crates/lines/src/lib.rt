@@ -1,7 +1,6 @@
 // Lines that programs print: a word or a number, further numbers one space apart, a line feed.
 ghost use mathlib.Core.Path.{_≡_};
 ghost use mathlib.Core.List.{[], _∷_};
-ghost use Prim.Native.Nat.{_<_, _≤_, _^_};
 ghost use Rattle.grown.specs.Grown.{appended};
 ghost use Rattle.grown.specs.Holds.{Holds};
 ghost use Rattle.text.specs.Text.{decimalOf};

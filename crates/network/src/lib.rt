@@ -1,15 +1,14 @@
 // A network as a table of 64 neighbour words, made from byte pairs: strike a node out of a copy, flood, test connectedness, test for a cut node.
 ghost use mathlib.Core.Path.{_≡_};
-ghost use mathlib.Core.Bool.{Bool};
 ghost use Prim.Native.Nat.{ℕ, _<_, _^_};
 ghost use lib.ListN.{getD};
-ghost use Rattle.finite.specs.Truth.{_or_, non};
+ghost use Rattle.finite.specs.Truth.{_or_};
 ghost use Rattle.finite.specs.Sum.{count};
 ghost use Rattle.finite.specs.Sets.{has, setOf};
 ghost use Rattle.graph.specs.Network.{among, avoid};
 ghost use Rattle.graph.specs.Reach.{reach, joined, splits};
 ghost use Rattle.nodes.specs.Limits.{maxNodes};
-ghost use Rattle.network.specs.Table.{joins, linked, edgeOf, tableFrom, tableOf, remaining};
+ghost use Rattle.network.specs.Table.{joins, edgeOf, tableFrom, tableOf, remaining};
 use nodes::MAX_NODES;
 
 // The byte at place i, 0 past the end.

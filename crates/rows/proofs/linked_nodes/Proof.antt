@@ -1,8 +1,5 @@
 -- `rows::linked_nodes` meets its contract. The invariant: what is found, and what is left and linked, is all that is linked.
-use mathlib.Core.Path.{_∙_, ap}
-use Prim.Native.Nat.{ℕ}
-use Rattle.finite.specs.Truth.{_&_}
-use Rattle.finite.specs.Sets.{has}
+use mathlib.Core.Path.{_∙_}
 use Rattle.finite.proofs.Truth.{and-true, lt-below}
 use Rattle.finite.proofs.Sets.{has-setOf, setOf-cong}
 use Rattle.nodes.specs.Limits.{maxNodes}

@@ -1,8 +1,8 @@
 -- `worked::table` is safe and ends, and is as long as the table.
-use mathlib.Core.Path.{_≡_, _∙_, sym}
+use mathlib.Core.Path.{_≡_}
 use Prim.Native.Nat.{_≤_, _-_}
 use native.Mathlib.Omega.{arith}
-use lib.ListN.{length, length-set}
+use lib.ListN.{length}
 use borrow.Author.Needs.{needs}
 use Rattle.worked.proofs.table.Statement.{statement}
 use Rattle.worked.proofs.table.Tie as tie
