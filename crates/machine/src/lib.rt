@@ -199,7 +199,7 @@ pub fn is_ready(record: Record, message: usize) -> bool
     let heads = record.heads;
     let classes = record.classes;
     let delivered = record.delivered;
-    let holders = record.holders;
+    let held = record.holders;
     is_ready_in(
         record.nodes,
         &free,
@@ -208,7 +208,7 @@ pub fn is_ready(record: Record, message: usize) -> bool
         &heads,
         &classes,
         &delivered,
-        &holders,
+        &held,
         message,
     )
 }
