@@ -15,16 +15,12 @@ use Rattle.finite.proofs.Lists.{tabulate-ext}
 use Rattle.nodes.specs.Limits.{maxNodes}
 use Rattle.nodes.proofs.Words.{lowest-in}
 use Rattle.network.specs.Table.{edgeOf}
+use Rattle.turns.proofs.Sift.{false-or}
 use Rattle.rows.specs.Steps.{pick, leadOf, linkedIn, linkedOf, halfOf}
 use Rattle.rows.specs.declared.Side.{Side}
 
 pub side-ext : {a b : Side} → a .members ≡ b .members → a .entries ≡ b .entries → a ≡ b
 side-ext p q = λ i. record { members = p i; entries = q i }
-
-false-or : (a : Bool) → a or false ≡ a
-unfolding _or_
-false-or true = refl
-false-or false = refl
 
 -- the lowest member of the union of two sets
 pub lead-word : (p q : ℕ → Bool) {a b w : ℕ} → a ≡ setOf maxNodes p → b ≡ setOf maxNodes q → w ≡ setOf maxNodes (λ u. has a u or has b u)

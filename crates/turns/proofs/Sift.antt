@@ -12,7 +12,7 @@ use Rattle.finite.proofs.Sets.{has-0, has-setOf, setOf-cong, set-ext}
 use Rattle.nodes.specs.Limits.{maxNodes}
 use Rattle.nodes.proofs.Words.{lowest-in, word-lt}
 
-false-or : (a : Bool) → a or false ≡ a
+pub false-or : (a : Bool) → a or false ≡ a
 unfolding _or_
 false-or true = refl
 false-or false = refl
