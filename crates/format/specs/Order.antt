@@ -5,7 +5,7 @@ use Prim.Native.Nat.{ℕ, suc, _+_, _*_, _≤_, _<_}
 use lib.ListN.{length, getD}
 use Rattle.format.specs.Contents.{kindAt, secondAt, offsetAt, lengthAt}
 
--- not over 65,535 bytes; "Byte 0 is 1. Byte 1 is the number of contents entries. Each entry has 6 bytes: kind, zero, offset, length"; "Bodies follow in entry
+-- not over 65,535 bytes; "Byte 0 is 1. Byte 1 is the number of contents entries. Each entry has 6 bytes: kind, zero, offset [..], length [..]"; "Bodies follow in entry
 -- order with no gap, the first right after the contents, the last ending at the image's end"; kind 1 is not shorter than 2
 pub record InOrder (b : List ℕ) (k : ℕ) : Type 0 where
   pub small : length b ≤ 65535

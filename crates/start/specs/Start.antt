@@ -39,11 +39,11 @@ listFault n list =
           elim (below p (length list / 2)) [ true ↦ Fault (Unknown p) | false ↦ Fine ]
     ]
 
--- "image by read's rules", and then the list
+-- "an image (read's rules)", and then the list
 abbrev pub startFault : List ℕ → List ℕ → Verdict
 startFault b list = andThen (imageFault b) (listFault (nodesIn b) list)
 
--- "a fresh start resets everything": labels and rows are what the rules give for the cabling of the image
+-- "a record, which it fills anew": labels and rows are what the rules give for the cabling of the image
 unfoldable pub freshOf : List ℕ → List ℕ → Record
 freshOf b list =
     let tables : Tables = tablesOf (nodesIn b) (links (pairsIn b)) (labelOf (nodesIn b) (pairsIn b)) in
