@@ -1,15 +1,15 @@
--- Laws of lists: tabulated ones by length, elements, agreement and extensionality; lists of zeros; one list stored over another.
+-- Laws of lists: tabulated ones by length, elements, agreement and extensionality; lists of zeros, and zeros behind a list; one list stored over another.
 use mathlib.Core.Path.{_≡_, refl, sym, _∙_, ap, ap₂, subst}
 use mathlib.Core.Bool.{true, false}
 use mathlib.Core.List.{List, [], _∷_, _++_}
-use Prim.Native.Nat.{ℕ, zero, suc, _+_, _≤_, _<_}
+use Prim.Native.Nat.{ℕ, zero, suc, _+_, _-_, _≤_, _<_}
 use native.Mathlib.Nat.{not-suc-le-zero, le-of-suc-le-suc, add-zero, zero-add, add-suc, suc-add}
 use native.Mathlib.Numerals.{add-one}
 use native.Mathlib.Omega.{arith}
-use lib.ListN.{length, getD, set, take, drop, replicate, List·getD-eq-default}
-use lib.Seq.{ext-getD, sets, sets-eq, take-suc, length-take-le}
+use lib.ListN.{length, getD, set, take, drop, replicate, length-append, length-replicate, List·getD-eq-default}
+use lib.Seq.{ext-getD, sets, sets-eq, take-suc, take-append-seam, length-take-le}
 use borrow.Author.Tests.{eq-eqb, eqb-true}
-use Rattle.finite.specs.Lists.{upFrom, tabulate, alike}
+use Rattle.finite.specs.Lists.{upFrom, tabulate, padded, alike}
 use Rattle.finite.proofs.Truth.{no-tf, refute, both, and-l, and-r}
 
 -- a list of zeros reads 0 everywhere
@@ -48,6 +48,31 @@ tabulate-ext n f d l e h =
 
 pub tabulate-cong : (n : ℕ) (f g : ℕ → ℕ) → ((i : ℕ) → i < n → f i ≡ g i) → tabulate n f ≡ tabulate n g
 tabulate-cong n f g h = tabulate-ext n g 0 (tabulate n f) (tabulate-length n f) (λ i l. tabulate-at n f i 0 l ∙ h i l)
+
+-- ---- zeros behind a list
+
+zeros-behind : (l : List ℕ) (k i : ℕ) → getD (l ++ replicate k 0) i 0 ≡ getD l i 0
+zeros-behind [] k i = getD-zeros k i
+zeros-behind (x ∷ l) k zero = refl
+zeros-behind (x ∷ l) k (suc i) = zeros-behind l k i
+
+pub padded-at : (k : ℕ) (l : List ℕ) (i : ℕ) → getD (padded k l) i 0 ≡ getD l i 0
+unfolding padded
+padded-at k l i = zeros-behind l (k - length l) i
+
+pub padded-length : (k : ℕ) (l : List ℕ) → length l ≤ k → length (padded k l) ≡ k
+unfolding padded
+padded-length k l h = simp (length-append, length-replicate) (omega arith)
+
+-- the list is the front of what is padded
+pub padded-front : (k : ℕ) (l : List ℕ) → take (length l) (padded k l) ≡ l
+unfolding padded
+padded-front k l = take-append-seam l (replicate (k - length l) 0)
+
+-- what is as long and reads the same is what is padded
+pub padded-ext : (k : ℕ) (l m : List ℕ) → length l ≤ k → length m ≡ k → ((i : ℕ) → i < k → getD m i 0 ≡ getD l i 0) → m ≡ padded k l
+padded-ext k l m h e same =
+    ext-getD 0 m (padded k l) (e ∙ sym (padded-length k l h)) (λ i b. same i (omega arith) ∙ sym (padded-at k l i))
 
 -- ---- a list stored over another, element by element
 

@@ -1,8 +1,8 @@
--- Laws of finite sums: agreement and order term by term, addition, factors, one term, exchange of two sums.
+-- Laws of finite sums: agreement and order term by term, addition, factors, one term, exchange of two sums, terms that are 0 from some number on.
 use mathlib.Core.Path.{_≡_, refl, sym, _∙_, ap, ap₂}
 use mathlib.Core.Bool.{Bool, true, false}
 use Prim.Native.Nat.{ℕ, zero, suc, _+_, _*_, _≤_, _<_, zero-le}
-use native.Mathlib.Nat.{le-refl, le-step, lt-suc-self, not-suc-le-zero, add-le-add, mul-add, mul-zero, mul-one}
+use native.Mathlib.Nat.{le-refl, le-step, lt-suc-self, le-dest, not-suc-le-zero, add-le-add, add-zero, add-suc, mul-add, mul-zero, mul-one}
 use native.Mathlib.Omega.{arith}
 use Rattle.finite.specs.Truth.{_&_, non, same, below}
 use Rattle.finite.specs.Sum.{sumTo, when, sumIf, count}
@@ -41,6 +41,17 @@ pub sum-zero : (n : ℕ) (f : ℕ → ℕ) → ((v : ℕ) → v < n → f v ≡ 
 unfolding sumTo
 sum-zero zero f h = refl
 sum-zero (suc n) f h = ap₂ _+_ (sum-zero n f (λ v l. h v (le-step l))) (h n (lt-suc-self n))
+
+-- a sum whose terms from m on are 0
+pub sum-cut : (m n : ℕ) (f : ℕ → ℕ) → m ≤ n → ((v : ℕ) → m ≤ v → f v ≡ 0) → sumTo n f ≡ sumTo m f
+sum-cut m n f l h = let (j, e) = le-dest l in ap (λ (x : ℕ). sumTo x f) (sym e) ∙ go j
+  where
+    go : (j : ℕ) → sumTo (m + j) f ≡ sumTo m f
+    go zero = ap (λ (x : ℕ). sumTo x f) (add-zero m)
+    go (suc j) =
+        let z = h (m + j) (omega arith) in
+        let i = go j in
+        ap (λ (x : ℕ). sumTo x f) (add-suc m j) ∙ sum-more (m + j) f ∙ omega arith
 
 -- each term is at most the sum
 pub sum-term : (n : ℕ) (f : ℕ → ℕ) (v : ℕ) → v < n → f v ≤ sumTo n f
@@ -217,3 +228,11 @@ sumIf-add n p f g =
 pub sumIf-when : (n : ℕ) (p q : ℕ → Bool) (f : ℕ → ℕ) → sumIf n p (λ v. when (q v) (f v)) ≡ sumIf n (λ v. p v & q v) f
 sumIf-when n p q f =
     sum-cong n (λ v. when (p v) (when (q v) (f v))) (λ v. when (p v & q v) (f v)) (λ v l. sym (when-and (p v) (q v) (f v)))
+
+-- what no number from m on passes is summed, and counted, up to m
+pub sumIf-cut : (m n : ℕ) (p : ℕ → Bool) (f : ℕ → ℕ) → m ≤ n → ((v : ℕ) → p v ≡ true → v < m) → sumIf n p f ≡ sumIf m p f
+sumIf-cut m n p f l h =
+    sum-cut m n (λ v. when (p v) (f v)) l (λ v b. when-false (f v) (bcase (p v) (λ t. let i = h v t in absurd (omega arith)) (λ t. t)))
+
+pub count-cut : (m n : ℕ) (p : ℕ → Bool) → m ≤ n → ((v : ℕ) → p v ≡ true → v < m) → count n p ≡ count m p
+count-cut m n p l h = sumIf-cut m n p (λ v. 1) l h

@@ -1,8 +1,9 @@
--- A list given by its elements; and the test whether two lists are the same.
+-- A list given by its elements; zeros behind a list; and the test whether two lists are the same.
 use mathlib.Core.Bool.{Bool, true, false}
-use mathlib.Core.List.{List, [], _∷_}
-use Prim.Native.Nat.{ℕ, zero, suc}
+use mathlib.Core.List.{List, [], _∷_, _++_}
+use Prim.Native.Nat.{ℕ, zero, suc, _-_}
 use lib.Dec.{eqb}
+use lib.ListN.{length, replicate}
 use Rattle.finite.specs.Truth.{_&_}
 
 -- f k, f (k + 1), .., n of them
@@ -13,6 +14,10 @@ upFrom k (suc n) f = f k ∷ upFrom (suc k) n f
 -- f 0, f 1, .., f (n - 1)
 unfoldable pub tabulate : ℕ → (ℕ → ℕ) → List ℕ
 tabulate n f = upFrom 0 n f
+
+-- a list and zeros behind it, k in all
+unfoldable pub padded : ℕ → List ℕ → List ℕ
+padded k l = l ++ replicate (k - length l) 0
 
 -- two lists of numbers are the same
 unfoldable pub alike : List ℕ → List ℕ → Bool

@@ -8,3 +8,4 @@ pub mod Routes
 pub mod Rank
 pub mod Local
 pub mod Few
+pub mod Width

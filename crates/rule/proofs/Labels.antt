@@ -176,6 +176,17 @@ module _ (n : ℕ) (edge : ℕ → ℕ → Bool) (net : Network n edge) (m : ℕ
       let f : label u ≡ suc k = omega arith in
       node-label u k a f ∙ sym (node-label v k b (sym e ∙ f))
 
+  -- a number that is no node has none
+  after-out : (k v : ℕ) → k ≤ m → m ≤ v → after k v ≡ 0
+  unfolding labelled
+  after-out zero v l h = getD-zeros n v
+  after-out (suc k) v l h =
+      let b = remains-low m _ _ (node-remains k l) in
+      after-old k v l (λ e. absurd (omega arith)) ∙ after-out k v (omega arith) h
+
+  pub label-out : (v : ℕ) → m ≤ v → label v ≡ 0
+  label-out v h = label-end v ∙ after-out m v (le-refl m) h
+
   -- ---- the rule
 
   -- at each stage what remains is connected

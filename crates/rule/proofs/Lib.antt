@@ -5,3 +5,4 @@ pub mod Choice
 pub mod Stages
 pub mod Labels
 pub mod Climb
+pub mod Width
