@@ -1,7 +1,6 @@
 // Bench: repeats one piece of work inside one process, and prints the last answer's number. Input: the work (0 builds, 1 drains), the number of repeats
 // (32 bits, low byte first); for builds a links image; for drains an image's length (16 bits, low byte first), the image, and pairs.
 ghost use Prim.Native.Nat.{_≤_};
-use machine::Record;
 use written::Written;
 
 // How many bytes were written; 0 where none were.
@@ -24,16 +23,9 @@ fn builds(links: &[u8], repeats: u32) -> usize {
     last
 }
 
-// A record to start with: a start fills it anew.
-fn blank() -> Record {
-    let labels = [0u8; 64];
-    let rows = [0u8; 4096];
-    machine::begun(0, labels, rows, rows, b"")
-}
-
 // Drains so many times, each with its own number as the seed, and answers the moves of the last one.
 fn drains(image: &[u8], list: &[u8], repeats: u32) -> usize {
-    let mut last = blank();
+    let mut last = machine::blank();
     for seed in 0..repeats {
         let drained = draining::drain(last, image, list, seed);
         let after = drained.record;

@@ -32,13 +32,13 @@ module _ (n m : ℕ) {p : ℕ → Bool} {v : ℕ} (past : (u : ℕ) → m ≤ u 
   least-none-among l = sym (least-unique n p n (omega arith) (λ k. absurd (omega arith)) (λ u k. before u k (omega arith)))
 
 module _ (edge : ℕ → ℕ → Bool) where
-  pub unreached-past : (u : ℕ) → maxNodes ≤ u → unreached edge u ≡ true
+  pub unreached-past : (u : ℕ) → maxNodes ≤ u → unreached maxNodes edge u ≡ true
   unfolding unreached
   unreached-past u l = true-non (has-out _ maxNodes u (reach-lt maxNodes edge (same 0)) l)
 
   pub apart-word : (n : ℕ) {one seen first left v : ℕ} → one ≡ setOf maxNodes (same 0) → seen ≡ reach maxNodes edge (has one)
       → first ≡ setOf maxNodes (λ u. below u n) → left ≡ setOf maxNodes (λ u. has first u & non (has seen u)) → v ≡ least maxNodes (has left)
-      → v ≡ least maxNodes (λ u. below u n & unreached edge u)
+      → v ≡ least maxNodes (λ u. below u n & unreached maxNodes edge u)
   unfolding unreached
   apart-word n {one} {seen} {first} {left} eo es ef el ev =
       ev ∙ ap (λ (w : ℕ). least maxNodes (has w)) el ∙ lowest-setOf maxNodes _

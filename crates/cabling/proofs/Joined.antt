@@ -1,46 +1,58 @@
--- Where the ends of every pair are fine, the links join nodes alone, and the nodes are connected just where walks lead from node 0 to each.
-use mathlib.Core.Path.{_≡_, sym, _∙_}
+-- Where the ends of every pair are fine, the links join nodes alone, the table holds them all, and the nodes are connected just where walks lead from
+-- node 0 to each.
+use mathlib.Core.Path.{_≡_, sym, _∙_, fun-ext}
 use mathlib.Core.Bool.{true}
-use mathlib.Core.List.{List}
-use Prim.Native.Nat.{ℕ, _/_, _<_}
+use Prim.Native.Nat.{ℕ, _/_, _≤_, _<_}
 use native.Mathlib.Omega.{arith}
 use lib.ListN.{length}
 use Rattle.finite.specs.Truth.{below}
-use Rattle.finite.proofs.Truth.{below-lt, lt-below}
+use Rattle.finite.proofs.Truth.{iff, below-lt, lt-below}
 use Rattle.finite.proofs.Search.{any-some}
 use Rattle.graph.specs.Network.{Network, Walk, Connected, among}
 use Rattle.graph.proofs.Walk.{walk-map, walk-append, walk-reverse, among-edge, edge-among}
-use Rattle.network.specs.Table.{linkedBy, linked}
+use Rattle.nodes.specs.Limits.{maxNodes}
+use Rattle.network.specs.Table.{linkedBy, linked, edgeOf, tableOf}
 use Rattle.network.proofs.Table.{edge-tableFrom}
 use Rattle.network.proofs.Links.{joins-ends}
-use Rattle.network.proofs.Meaning.{pairs-network}
-use Rattle.cabling.specs.Cabling.{links, EndsFine, Good}
+use Rattle.network.proofs.Meaning.{linked-swap, linked-ne, pairs-network}
+use Rattle.cabling.specs.Cabling.{Cabling, links, EndsFine, Good}
 
-module _ (n : ℕ) (pairs : List ℕ) (ends : (p : ℕ) → p < length pairs / 2 → EndsFine n pairs p) where
-  link-low : (a b : ℕ) → links pairs a b ≡ true → b < n
+module _ (c : Cabling) (ends : (p : ℕ) → p < length (c .pairs) / 2 → EndsFine c p) where
+  link-low : (a b : ℕ) → links c a b ≡ true → b < c .nodes
   unfolding linked linkedBy
   link-low a b h =
-      let net = pairs-network pairs in
-      let s = any-some _ _ (sym (edge-tableFrom (linked pairs) a b (net .inside b a (net .undirected a b h)) (net .inside a b h)) ∙ h) in
+      let s = any-some _ _ h in
       let e = ends (s .at) (s .low) in
       joins-ends _ _ a b (s .fact) (λ x y. omega arith) (λ x y. omega arith)
 
-  pub ends-network : Network n (links pairs)
-  ends-network =
-      let net = pairs-network pairs in
-      record { undirected = net .undirected; no-loop = net .no-loop; inside = link-low }
+  pub ends-network : Network (c .nodes) (links c)
+  ends-network = record { undirected = linked-swap (c .pairs); no-loop = linked-ne (c .pairs); inside = link-low }
 
-  -- so each link stands between two of the n nodes
-  inner : (a b : ℕ) → links pairs a b ≡ true → among (λ v. below v n) (links pairs) a b ≡ true
-  inner a b h = edge-among _ (links pairs) (lt-below (link-low b a (ends-network .undirected a b h))) (lt-below (link-low a b h)) h
+  -- the table of the pairs holds the links
+  pub ends-table : c .nodes ≤ maxNodes → edgeOf (tableOf (c .pairs)) ≡ links c
+  ends-table few =
+      let net = pairs-network (c .pairs) in
+      fun-ext (λ a. fun-ext (λ b.
+      iff _ _ (λ h. sym (edge-tableFrom (links c) a b (net .inside b a (net .undirected a b h)) (net .inside a b h)) ∙ h)
+      (λ h.
+      let k = link-low b a (linked-swap (c .pairs) a b h) in
+      let l = link-low a b h in
+      edge-tableFrom (links c) a b (omega arith) (omega arith) ∙ h)))
 
-  pub walks-connected : ((v : ℕ) → v < n → Walk (links pairs) 0 v) → Connected (links pairs) (λ v. below v n)
+  -- each link stands between two of the nodes
+  inner : (a b : ℕ) → links c a b ≡ true → among (λ v. below v (c .nodes)) (links c) a b ≡ true
+  inner a b h = edge-among _ (links c) (lt-below (link-low b a (linked-swap (c .pairs) a b h))) (lt-below (link-low a b h)) h
+
+  pub walks-connected : ((v : ℕ) → v < c .nodes → Walk (links c) 0 v) → Connected (links c) (λ v. below v (c .nodes))
   walks-connected to a b x y =
-      walk-map inner (walk-append (walk-reverse (ends-network .undirected) (to a (below-lt _ _ x))) (to b (below-lt _ _ y)))
+      walk-map inner (walk-append (walk-reverse (linked-swap (c .pairs)) (to a (below-lt _ _ x))) (to b (below-lt _ _ y)))
 
-  pub connected-walks : 0 < n → Connected (links pairs) (λ v. below v n) → (v : ℕ) → v < n → Walk (links pairs) 0 v
-  connected-walks z c v l = walk-map (among-edge (λ u. below u n) (links pairs)) (c 0 v (lt-below z) (lt-below l))
+  pub connected-walks : 0 < c .nodes → Connected (links c) (λ v. below v (c .nodes)) → (v : ℕ) → v < c .nodes → Walk (links c) 0 v
+  connected-walks z w v l = walk-map (among-edge (λ u. below u (c .nodes)) (links c)) (w 0 v (lt-below z) (lt-below l))
 
--- a good cabling is a network of n nodes
-pub good-network : {n : ℕ} {pairs : List ℕ} → Good n pairs → Network n (links pairs)
-good-network g = ends-network _ _ (g .ends)
+-- a good cabling is a network, and the table of its pairs holds its links
+pub good-network : {c : Cabling} → Good c → Network (c .nodes) (links c)
+good-network {c} g = ends-network c (g .ends)
+
+pub table-links : {c : Cabling} → Good c → edgeOf (tableOf (c .pairs)) ≡ links c
+table-links {c} g = ends-table c (g .ends) (g .few)

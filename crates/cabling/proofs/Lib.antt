@@ -3,6 +3,8 @@ pub mod Tests
 pub mod Cases
 pub mod Apart
 pub mod Joined
+pub mod Width
 pub mod Rising
 pub mod Meaning
+pub mod Example
 pub mod Tight

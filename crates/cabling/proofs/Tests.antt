@@ -1,21 +1,19 @@
 -- Each test of the checks decides between two plain facts.
 use mathlib.Core.Path.{_≡_}
-use mathlib.Core.Bool.{Bool, true}
+use mathlib.Core.Bool.{Bool}
 use mathlib.Core.List.{List}
 use mathlib.Core.Logic.{_⊎_}
 use Prim.Native.Nat.{ℕ, _*_, _-_, _%_, _≤_, _<_}
-use native.Mathlib.Omega.{arith}
 use lib.ListN.{length}
 use Rattle.finite.specs.Truth.{same}
 use Rattle.finite.specs.Sum.{count}
 use Rattle.finite.specs.Sets.{has}
 use Rattle.finite.proofs.Truth.{no-tf, same-eq, same-refl}
-use Rattle.graph.specs.Network.{Walk}
+use Rattle.graph.specs.Network.{Network, Walk}
 use Rattle.graph.specs.Reach.{reach}
 use Rattle.graph.proofs.Reach.{reach-from, reach-walk}
 use Rattle.nodes.specs.Limits.{maxNodes, maxLinks, maxDegree}
-use Rattle.network.proofs.Meaning.{pairs-network}
-use Rattle.cabling.specs.Cabling.{links, EndsFine, Above}
+use Rattle.cabling.specs.Cabling.{Cabling, EndsFine, Above}
 use Rattle.cabling.specs.Faults.{counted, shaped, badEnds, rises, notAbove, badPair, crowded, unreached}
 use Rattle.cabling.specs.Verdicts.{Counted, Shaped, EndsBad, OrderBad, PairFine}
 use Rattle.cabling.proofs.Decide.{Decides, decide-below, decide-leb, decide-same, decide-eqb, decide-non, decide-not, decide-and, decide-or}
@@ -36,31 +34,28 @@ pub decide-order : (pairs : List ℕ) (p : ℕ) → Decides (notAbove pairs p) (
 unfolding notAbove
 decide-order pairs p = decide-and (decide-non (decide-same p 0)) (decide-non (decide-rises pairs (p - 1) p))
 
-module _ (n : ℕ) (pairs : List ℕ) (p : ℕ) where
-  pub decide-ends : Decides (badEnds n pairs p) (EndsBad n pairs p) (EndsFine n pairs p)
+module _ (c : Cabling) (p : ℕ) where
+  pub decide-ends : Decides (badEnds c p) (EndsBad c p) (EndsFine c p)
   unfolding badEnds
   decide-ends = decide-or (decide-non (decide-below _ _)) (decide-non (decide-below _ _))
 
-  pub decide-pair : Decides (badPair n pairs p) (EndsBad n pairs p ⊎ OrderBad pairs p) (PairFine n pairs p)
+  pub decide-pair : Decides (badPair c p) (EndsBad c p ⊎ OrderBad (c .pairs) p) (PairFine c p)
   unfolding badPair
-  decide-pair = decide-or decide-ends (decide-order pairs p)
+  decide-pair = decide-or decide-ends (decide-order (c .pairs) p)
 
-pub decide-crowded : (edge : ℕ → ℕ → Bool) (v : ℕ) → Decides (crowded edge v) (maxDegree < count maxNodes (edge v)) (count maxNodes (edge v) ≤ maxDegree)
+pub decide-crowded : (w : ℕ) (edge : ℕ → ℕ → Bool) (v : ℕ) → Decides (crowded w edge v) (maxDegree < count w (edge v)) (count w (edge v) ≤ maxDegree)
 unfolding crowded
-decide-crowded edge v = decide-below _ _
+decide-crowded w edge v = decide-below _ _
 
 -- the flood from node 0 reaches just the nodes that walks lead to
-decide-reached : (pairs : List ℕ) (v : ℕ)
-    → Decides (has (reach maxNodes (links pairs) (same 0)) v) (Walk (links pairs) 0 v) (Walk (links pairs) 0 v → ⊥)
-decide-reached pairs v =
-    let walk : Walk (links pairs) 0 v → has (reach maxNodes (links pairs) (same 0)) v ≡ true =
-    reach-walk maxNodes (links pairs) (pairs-network pairs .inside) (same 0) (omega arith) (same-refl 0) in
-    record {
-      yes = λ t. let f = reach-from maxNodes (links pairs) (same 0) v t in rw (same-eq _ _ (f .fact)) (f .walk);
-      no = λ t w. no-tf (walk w) t;
-      never = λ w n. n w;
-    }
+module _ (w : ℕ) (edge : ℕ → ℕ → Bool) (net : Network w edge) (some : 0 < w) (v : ℕ) where
+  decide-reached : Decides (has (reach w edge (same 0)) v) (Walk edge 0 v) (Walk edge 0 v → ⊥)
+  decide-reached = record {
+    yes = λ t. let f = reach-from w edge (same 0) v t in rw (same-eq _ _ (f .fact)) (f .walk);
+    no = λ t k. no-tf (reach-walk w edge (net .inside) (same 0) some (same-refl 0) k) t;
+    never = λ k n. n k;
+  }
 
-pub decide-unreached : (pairs : List ℕ) (v : ℕ) → Decides (unreached (links pairs) v) (Walk (links pairs) 0 v → ⊥) (Walk (links pairs) 0 v)
-unfolding unreached
-decide-unreached pairs v = decide-non (decide-reached pairs v)
+  pub decide-unreached : Decides (unreached w edge v) (Walk edge 0 v → ⊥) (Walk edge 0 v)
+  unfolding unreached
+  decide-unreached = decide-non decide-reached

@@ -9,15 +9,23 @@ use Rattle.finite.specs.Truth.{below}
 use Rattle.finite.specs.Sum.{count}
 use Rattle.graph.specs.Network.{Connected}
 use Rattle.nodes.specs.Limits.{maxNodes, maxLinks, maxDegree}
-use Rattle.network.specs.Table.{edgeOf, tableOf}
+use Rattle.network.specs.Table.{linked}
 
--- the links of a list of pairs, how many of them node v has, and the two ends of pair p
-abbrev pub links : List ℕ → ℕ → ℕ → Bool
-links pairs = edgeOf (tableOf pairs)
+pub record Cabling : Type 0 where
+  pub nodes : ℕ
+  pub pairs : List ℕ
 
-abbrev pub linksAt : List ℕ → ℕ → ℕ
-linksAt pairs v = count maxNodes (links pairs v)
+abbrev pub cabled : ℕ → List ℕ → Cabling
+cabled n pairs = record { nodes = n; pairs = pairs }
 
+-- its links, and how many of them node v has
+abbrev pub links : Cabling → ℕ → ℕ → Bool
+links c = linked (c .pairs)
+
+abbrev pub linksAt : Cabling → ℕ → ℕ
+linksAt c v = count (c .nodes) (links c v)
+
+-- the two ends of pair p
 abbrev pub lowEnd : List ℕ → ℕ → ℕ
 lowEnd pairs p = getD pairs (2 * p) 0
 
@@ -25,23 +33,23 @@ abbrev pub highEnd : List ℕ → ℕ → ℕ
 highEnd pairs p = getD pairs (2 * p + 1) 0
 
 -- "pairs of bytes (a, b) with a < b", both nodes
-abbrev pub EndsFine : ℕ → List ℕ → ℕ → Type 0
-EndsFine n pairs p = (lowEnd pairs p < highEnd pairs p) × (highEnd pairs p < n)
+abbrev pub EndsFine : Cabling → ℕ → Type 0
+EndsFine c p = (lowEnd (c .pairs) p < highEnd (c .pairs) p) × (highEnd (c .pairs) p < c .nodes)
 
 -- pair q is above pair p: "strictly rising order, first by a, then by b"
 abbrev pub Above : List ℕ → ℕ → ℕ → Type 0
 Above pairs p q =
     (lowEnd pairs p < lowEnd pairs q) ⊎ ((lowEnd pairs p ≡ lowEnd pairs q) × (highEnd pairs p < highEnd pairs q))
 
-pub record Good (n : ℕ) (pairs : List ℕ) : Type 0 where
+pub record Good (c : Cabling) : Type 0 where
   -- "2 to 64 nodes"
-  pub many : 2 ≤ n
-  pub few : n ≤ maxNodes
+  pub many : 2 ≤ c .nodes
+  pub few : c .nodes ≤ maxNodes
   -- "Links are undirected, at most 512", two bytes each
-  pub even : length pairs % 2 ≡ 0
-  pub short : length pairs ≤ 2 * maxLinks
-  pub ends : (p : ℕ) → p < length pairs / 2 → EndsFine n pairs p
-  pub rising : (p : ℕ) → p + 1 < length pairs / 2 → Above pairs p (p + 1)
+  pub even : length (c .pairs) % 2 ≡ 0
+  pub short : length (c .pairs) ≤ 2 * maxLinks
+  pub ends : (p : ℕ) → p < length (c .pairs) / 2 → EndsFine c p
+  pub rising : (p : ℕ) → p + 1 < length (c .pairs) / 2 → Above (c .pairs) p (p + 1)
   -- "at most 16 links at a node"
-  pub sparse : (v : ℕ) → v < n → linksAt pairs v ≤ maxDegree
-  pub connected : Connected (links pairs) (λ v. below v n)
+  pub sparse : (v : ℕ) → v < c .nodes → linksAt c v ≤ maxDegree
+  pub connected : Connected (links c) (λ v. below v (c .nodes))

@@ -13,7 +13,7 @@ use Rattle.nodes.specs.Limits.{maxNodes, maxLinks, maxDegree}
 use Rattle.refusal.specs.declared.Refusal.the-variants.{Count, Shape, Ends, Order, Crowded, Apart}
 use Rattle.refusal.specs.declared.Verdict.{Verdict}
 use Rattle.refusal.specs.declared.Verdict.the-variants.{Fine, Fault}
-use Rattle.cabling.specs.Cabling.{links, lowEnd, highEnd}
+use Rattle.cabling.specs.Cabling.{Cabling, links, lowEnd, highEnd}
 
 -- 2: "N not in 2 to 64"
 unfoldable pub counted : ℕ → Bool
@@ -24,8 +24,8 @@ unfoldable pub shaped : List ℕ → Bool
 shaped pairs = eqb (length pairs % 2) 0 & leb (length pairs) (2 * maxLinks)
 
 -- 4: "a pair with a ≥ b or b ≥ N"
-unfoldable pub badEnds : ℕ → List ℕ → ℕ → Bool
-badEnds n pairs p = non (below (lowEnd pairs p) (highEnd pairs p)) or non (below (highEnd pairs p) n)
+unfoldable pub badEnds : Cabling → ℕ → Bool
+badEnds c p = non (below (lowEnd (c .pairs) p) (highEnd (c .pairs) p)) or non (below (highEnd (c .pairs) p) (c .nodes))
 
 -- pair q is above pair p
 unfoldable pub rises : List ℕ → ℕ → ℕ → Bool
@@ -36,43 +36,43 @@ rises pairs p q =
 unfoldable pub notAbove : List ℕ → ℕ → Bool
 notAbove pairs p = non (same p 0) & non (rises pairs (p - 1) p)
 
-unfoldable pub badPair : ℕ → List ℕ → ℕ → Bool
-badPair n pairs p = badEnds n pairs p or notAbove pairs p
+unfoldable pub badPair : Cabling → ℕ → Bool
+badPair c p = badEnds c p or notAbove (c .pairs) p
 
 -- the fault of a pair, 4 before 5
-unfoldable pub pairFault : ℕ → List ℕ → ℕ → Verdict
-pairFault n pairs p =
-    elim (badEnds n pairs p) [
+unfoldable pub pairFault : Cabling → ℕ → Verdict
+pairFault c p =
+    elim (badEnds c p) [
       | true ↦ Fault (Ends p)
-      | false ↦ elim (notAbove pairs p) [ true ↦ Fault (Order p) | false ↦ Fine ]
+      | false ↦ elim (notAbove (c .pairs) p) [ true ↦ Fault (Order p) | false ↦ Fine ]
     ]
 
--- 6: "more than 16 links at a node"
-unfoldable pub crowded : (ℕ → ℕ → Bool) → ℕ → Bool
-crowded edge v = below maxDegree (count maxNodes (edge v))
+-- 6: "more than 16 links at a node", counted at the width w
+unfoldable pub crowded : ℕ → (ℕ → ℕ → Bool) → ℕ → Bool
+crowded w edge v = below maxDegree (count w (edge v))
 
--- 7: "not reached from 0"
-unfoldable pub unreached : (ℕ → ℕ → Bool) → ℕ → Bool
-unreached edge v = non (has (reach maxNodes edge (same 0)) v)
+-- 7: "not reached from 0", at the width w
+unfoldable pub unreached : ℕ → (ℕ → ℕ → Bool) → ℕ → Bool
+unreached w edge v = non (has (reach w edge (same 0)) v)
 
--- the lowest crowded node; else the lowest node not reached
-unfoldable pub nodeFault : ℕ → (ℕ → ℕ → Bool) → Verdict
-nodeFault n edge =
-    let c : ℕ = least n (crowded edge) in
+-- the lowest crowded one of the first n nodes; else the lowest not reached
+unfoldable pub nodeFault : ℕ → (ℕ → ℕ → Bool) → ℕ → Verdict
+nodeFault w edge n =
+    let c : ℕ = least n (crowded w edge) in
     elim (below c n) [
       | true ↦ Fault (Crowded c)
-      | false ↦ let u : ℕ = least n (unreached edge) in elim (below u n) [ true ↦ Fault (Apart u) | false ↦ Fine ]
+      | false ↦ let u : ℕ = least n (unreached w edge) in elim (below u n) [ true ↦ Fault (Apart u) | false ↦ Fine ]
     ]
 
 -- the first bad pair; else what is wrong at a node
-unfoldable pub linkFault : ℕ → List ℕ → Verdict
-linkFault n pairs =
-    let p : ℕ = least (length pairs / 2) (badPair n pairs) in
-    elim (below p (length pairs / 2)) [ true ↦ pairFault n pairs p | false ↦ nodeFault n (links pairs) ]
+unfoldable pub linkFault : Cabling → Verdict
+linkFault c =
+    let p : ℕ = least (length (c .pairs) / 2) (badPair c) in
+    elim (below p (length (c .pairs) / 2)) [ true ↦ pairFault c p | false ↦ nodeFault (c .nodes) (links c) (c .nodes) ]
 
-unfoldable pub faultOf : ℕ → List ℕ → Verdict
-faultOf n pairs =
-    elim (counted n) [
+unfoldable pub faultOf : Cabling → Verdict
+faultOf c =
+    elim (counted (c .nodes)) [
       | false ↦ Fault Count
-      | true ↦ elim (shaped pairs) [ false ↦ Fault Shape | true ↦ linkFault n pairs ]
+      | true ↦ elim (shaped (c .pairs)) [ false ↦ Fault Shape | true ↦ linkFault c ]
     ]

@@ -1,8 +1,10 @@
 // The checks of a cabling, in 01's order: the first fault is the verdict.
 ghost use mathlib.Core.Path.{_≡_};
+ghost use Prim.Native.Nat.{_≤_};
 ghost use Rattle.finite.specs.Search.{least};
+ghost use Rattle.nodes.specs.Limits.{maxNodes};
 ghost use Rattle.network.specs.Table.{edgeOf};
-ghost use Rattle.cabling.specs.Cabling.{lowEnd, highEnd};
+ghost use Rattle.cabling.specs.Cabling.{cabled, lowEnd, highEnd};
 ghost use Rattle.cabling.specs.Faults.{badEnds, rises, notAbove, pairFault, crowded, unreached, nodeFault, linkFault, faultOf};
 use nodes::MAX_DEGREE;
 use nodes::MAX_LINKS;
@@ -34,7 +36,7 @@ fn high_end(pairs: &[u8], p: usize) -> usize
 
 // Is a ≥ b or b ≥ n, for pair p?
 fn bad_ends(n: usize, pairs: &[u8], p: usize) -> bool
-    ensures { λ r. ⌜ r ≡ badEnds n (now (pairs .entry)) p ⌝ }
+    ensures { λ r. ⌜ r ≡ badEnds (cabled n (now (pairs .entry))) p ⌝ }
 {
     let b = high_end(pairs, p);
     if b <= low_end(pairs, p) {
@@ -69,7 +71,7 @@ fn not_above(pairs: &[u8], p: usize) -> bool
 
 // The fault of pair p: its ends before its place.
 fn pair_fault(n: usize, pairs: &[u8], p: usize) -> Verdict
-    ensures { λ r. ⌜ r ≡ pairFault n (now (pairs .entry)) p ⌝ }
+    ensures { λ r. ⌜ r ≡ pairFault (cabled n (now (pairs .entry))) p ⌝ }
 {
     let ends = bad_ends(n, pairs, p);
     let order = not_above(pairs, p);
@@ -84,7 +86,7 @@ fn pair_fault(n: usize, pairs: &[u8], p: usize) -> Verdict
 
 // The lowest of the first n nodes with too many links, n where there is none.
 fn lowest_crowded(n: usize, t: &[u64]) -> usize
-    ensures { λ r. ⌜ r ≡ least n (crowded (edgeOf (now (t .entry)))) ⌝ }
+    ensures { λ r. ⌜ r ≡ least n (crowded maxNodes (edgeOf (now (t .entry)))) ⌝ }
 {
     for v in 0..n {
         if MAX_DEGREE < network::degree(t, v) {
@@ -96,7 +98,7 @@ fn lowest_crowded(n: usize, t: &[u64]) -> usize
 
 // The lowest of the first n nodes that is not reached from node 0, n where there is none.
 fn lowest_apart(n: usize, t: &[u64]) -> usize
-    ensures { λ r. ⌜ r ≡ least n (unreached (edgeOf (now (t .entry)))) ⌝ }
+    ensures { λ r. ⌜ r ≡ least n (unreached maxNodes (edgeOf (now (t .entry)))) ⌝ }
 {
     let seen = network::flood(t, nodes::one(0));
     let v = nodes::lowest(nodes::difference(nodes::first(n), seen));
@@ -105,7 +107,7 @@ fn lowest_apart(n: usize, t: &[u64]) -> usize
 
 // What is wrong at a node: too many links before no walk from node 0.
 fn node_fault(n: usize, t: &[u64]) -> Verdict
-    ensures { λ r. ⌜ r ≡ nodeFault n (edgeOf (now (t .entry))) ⌝ }
+    ensures { λ r. ⌜ r ≡ nodeFault maxNodes (edgeOf (now (t .entry))) n ⌝ }
 {
     let v = lowest_crowded(n, t);
     if v < n {
@@ -120,7 +122,8 @@ fn node_fault(n: usize, t: &[u64]) -> Verdict
 
 // The fault of the first bad pair; where there is none, what is wrong at a node.
 fn link_fault(n: usize, pairs: &[u8]) -> Verdict
-    ensures { λ r. ⌜ r ≡ linkFault n (now (pairs .entry)) ⌝ }
+    requires { ⌜ n ≤ maxNodes ⌝ }
+    ensures { λ r. ⌜ r ≡ linkFault (cabled n (now (pairs .entry))) ⌝ }
 {
     for p in 0..pairs.len() / 2 {
         let found = pair_fault(n, pairs, p);
@@ -134,7 +137,7 @@ fn link_fault(n: usize, pairs: &[u8]) -> Verdict
 
 // The first fault of the cabling of n nodes and these pairs.
 pub fn fault(n: usize, pairs: &[u8]) -> Verdict
-    ensures { λ r. ⌜ r ≡ faultOf n (now (pairs .entry)) ⌝ }
+    ensures { λ r. ⌜ r ≡ faultOf (cabled n (now (pairs .entry))) ⌝ }
 {
     if n < 2 {
         return Verdict::Fault(Refusal::Count);

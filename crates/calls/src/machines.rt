@@ -1,21 +1,12 @@
 // Calls of the drain machine: steps, the moves of named messages; and trace, a drain with a line for each move.
 use crate::answers;
 use crate::arguments;
-use machine::MAX_PAIRS;
 use machine::Record;
-use nodes::MAX_NODES;
 use refusal::Refusal;
 use refusal::Verdict;
 
 // More moves than 256 messages can make, of at most 63 hops and a delivery each.
 const MOST_MOVES: usize = 16640;
-
-// A record to start with: a start fills it anew.
-fn blank() -> Record {
-    let labels = [0u8; MAX_NODES];
-    let rows = [0u8; MAX_PAIRS];
-    machine::begun(0, labels, rows, rows, b"")
-}
 
 // A line for the move of each named message, and the count.
 fn stepped(record: Record, named: &[u8]) {
@@ -37,7 +28,11 @@ pub fn steps(args: &[u8]) -> bool {
     if rest.len() != 2 + 2 * format::number_at(rest, 0) {
         return false;
     }
-    let started = moves::started(blank(), arguments::bytes(args), arguments::bytes(second));
+    let started = moves::started(
+        machine::blank(),
+        arguments::bytes(args),
+        arguments::bytes(second),
+    );
     let verdict = started.verdict;
     let record = started.record;
     match verdict {
@@ -75,7 +70,7 @@ fn drain(input: &[u8]) {
         return;
     }
     let list = arguments::behind(rest, 4);
-    let started = moves::started(blank(), arguments::bytes(input), list);
+    let started = moves::started(machine::blank(), arguments::bytes(input), list);
     let verdict = started.verdict;
     let record = started.record;
     match verdict {

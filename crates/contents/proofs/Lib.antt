@@ -1,4 +1,5 @@
 pub mod Going
 pub mod Whole
+pub mod Fitted
 pub mod Meet
 pub mod Tight

@@ -1,8 +1,15 @@
 // The contents of an image, walked by a reader. The work is in `step_at`, which keeps no reference; `new` and `step` are thin, and `stepped` serves callers
-// that keep the image and the number themselves.
+// that keep the image and the number themselves, as `in_order` does.
 ghost use mathlib.Core.Path.{_≡_};
+ghost use Prim.Native.Nat.{_≤_};
+ghost use Rattle.format.specs.Contents.{inOrder};
 ghost use Rattle.contents.specs.Walking.{standing, foundAt, stepOf};
+ghost use Rattle.contents.specs.Fitting.{fits, lengthIn};
 use format::Entry;
+use network::byte_at;
+
+// "Not over 65,535 bytes"
+pub const MAX_IMAGE: usize = 65535;
 
 // 01: "a reader that keeps the caller's image and the number of the next entry"
 pub struct Reader<'a> {
@@ -57,4 +64,73 @@ pub fn stepped(image: &[u8], number: usize) -> Found
         entry,
         next: reader.next,
     }
+}
+
+// Is the entry there, of kind i + 1, its second byte zero, and its offset `begin`?
+fn entry_fits(entry: Entry, i: usize, begin: usize) -> bool
+    requires { ⌜ i ≤ 255 ⌝ }
+    ensures { λ r. ⌜ r ≡ fits entry i begin ⌝ }
+{
+    let Entry::At {
+        kind,
+        second,
+        offset,
+        length: _,
+    } = entry
+    else {
+        return false;
+    };
+    if kind as usize != i + 1 {
+        return false;
+    }
+    if second != 0 {
+        return false;
+    }
+    if offset != begin {
+        return false;
+    }
+    true
+}
+
+// The entry's length, 0 of none.
+fn length_in(entry: Entry) -> usize
+    ensures { λ r. ⌜ r ≡ lengthIn entry ⌝ }
+{
+    match entry {
+        Entry::At { length, .. } => length,
+        Entry::Nothing => 0,
+    }
+}
+
+// Are the contents those of an image with kinds 1, .., k? They are walked by the reader.
+pub fn in_order(image: &[u8], k: usize) -> bool
+    ensures { λ r. ⌜ r ≡ inOrder (now (image .entry)) k ⌝ }
+{
+    if MAX_IMAGE < image.len() {
+        return false;
+    }
+    if byte_at(image, 0) != 1 {
+        return false;
+    }
+    if byte_at(image, 1) != k {
+        return false;
+    }
+    let mut begin = 2 + 6 * k;
+    for i in 0..k {
+        let found = stepped(image, i);
+        let entry = found.entry;
+        if !entry_fits(entry, i, begin) {
+            return false;
+        }
+        begin += length_in(entry);
+    }
+    if begin != image.len() {
+        return false;
+    }
+    let found = stepped(image, 0);
+    let first = found.entry;
+    if length_in(first) < 2 {
+        return false;
+    }
+    true
 }

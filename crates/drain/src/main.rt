@@ -5,5 +5,7 @@
 fn main() {
     let mut input = io::large_buffer();
     let n = io::read_full(0, &mut input);
-    programs::say(programs::drain::output(&input[..n]));
+    let mut out = [0u8; programs::drain::LONGEST];
+    let written = programs::drain::output(&input[..n], &mut out);
+    programs::say(written, &out);
 }

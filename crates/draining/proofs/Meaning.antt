@@ -1,6 +1,6 @@
 -- What a drain comes to, whatever its seed: it takes exactly as many turns as the sum of (shortest lawful hops + 1), which it counts; then every message is
 -- delivered and every channel is free.
-use mathlib.Core.Path.{_≡_}
+use mathlib.Core.Path.{_≡_, sym, _∙_}
 use mathlib.Core.Bool.{true, false}
 use mathlib.Core.List.{List}
 use mathlib.Core.Logic.{_↔_}
@@ -9,6 +9,7 @@ use native.Mathlib.Nat.{le-refl}
 use native.Mathlib.Omega.{arith}
 use Rattle.refusal.specs.declared.Verdict.the-variants.{Fine}
 use Rattle.format.specs.Contents.{nodesIn}
+use Rattle.image.specs.Image.{cablingIn}
 use Rattle.machine.specs.declared.Record.{Record}
 use Rattle.machine.specs.Step.{isDelivered, holder, stepOf}
 use Rattle.machine.specs.Runs.{Listed, messagesIn, successful}
@@ -17,45 +18,50 @@ use Rattle.machine.proofs.Drain.{all-delivered, every-link-free}
 use Rattle.machine.proofs.Reached.{reached-state}
 use Rattle.machine.proofs.Ready.{delivered-every, messages-listed}
 use Rattle.start.specs.Start.{startFault, freshOf}
+use Rattle.start.proofs.Fabrics.{TabledFor, RunFor, fresh-reached, start-fabric, start-listed}
 use Rattle.draining.specs.Order.{turnOf}
 use Rattle.draining.specs.Drained.{after, sumOf, endOf}
 use Rattle.draining.proofs.Turns.{turn-moves, after-run, after-ends, after-same, after-count}
-use Rattle.draining.proofs.Running.{FabricOf, RunOf, fresh-run, fresh-moves, fabric-of, listed-of}
+use Rattle.draining.proofs.Running.{sum-read, fresh-moves}
 
 module _ (b list : List ℕ) (fine : startFault b list ≡ Fine) where
-  fabric : FabricOf b
-  fabric = fabric-of b list fine
+  tabled : TabledFor (cablingIn b)
+  tabled = start-fabric b list fine
 
   listed : Listed (nodesIn b) list
-  listed = listed-of b list fine
+  listed = start-listed b list fine
 
   -- while a message is undelivered, the one that a turn chooses moves
-  pub chosen-moves : {r : Record} → RunOf b list r → (seed : ℕ) → allDelivered r ≡ false → successful (stepOf r (turnOf seed r .message) .answer) ≡ true
-  chosen-moves run seed d = turn-moves fabric listed run seed d
+  pub chosen-moves : {r : Record} → RunFor (cablingIn b) list r → (seed : ℕ) → allDelivered r ≡ false → successful (stepOf r (turnOf seed r .message) .answer) ≡ true
+  chosen-moves run seed d = turn-moves tabled listed run seed d
 
   -- all are delivered exactly when the sum is reached
-  delivered-sum : {r : Record} → RunOf b list r → allDelivered r ≡ true → r .moves ≡ sumOf b list
-  delivered-sum {r} run d = let k = messages-listed fabric listed run in all-delivered fabric listed run .1 (λ m l. delivered-every r d m (omega arith))
+  delivered-sum : {r : Record} → RunFor (cablingIn b) list r → allDelivered r ≡ true → r .moves ≡ sumOf b list
+  delivered-sum {r} run d = let k = messages-listed tabled listed run in all-delivered tabled listed run .1 (λ m l. delivered-every r d m (omega arith)) ∙ sum-read b list
 
   module _ (seed : ℕ) where
     -- the sum is the number of turns that it takes, and no budget: more turns change nothing
     pub turns-needed : (k : ℕ) → (allDelivered (after k seed (freshOf b list)) ≡ true) ↔ (sumOf b list ≤ k)
     turns-needed k =
-        let z = fresh-moves b list in (
+        let z = fresh-moves b list in
+        let s = sum-read b list in (
           λ d.
-              let e = delivered-sum (after-run fabric listed k seed (fresh-run b list)) d in
-              let c = after-count fabric listed k seed (fresh-run b list) in
+              let e = delivered-sum (after-run tabled listed k seed (fresh-reached b list)) d in
+              let c = after-count tabled listed k seed (fresh-reached b list) in
               omega arith,
-          λ l. after-ends fabric listed k seed (fresh-run b list) (omega arith),
+          λ l. after-ends tabled listed k seed (fresh-reached b list) (omega arith),
         )
 
     pub no-budget : (k : ℕ) → sumOf b list ≤ k → after k seed (freshOf b list) ≡ endOf b list seed
     unfolding endOf
-    no-budget k l = let z = fresh-moves b list in after-same fabric listed k (sumOf b list) seed (fresh-run b list) (omega arith) (omega arith)
+    no-budget k l =
+        let z = fresh-moves b list in
+        let s = sum-read b list in
+        after-same tabled listed k (sumOf b list) seed (fresh-reached b list) (omega arith) (omega arith)
 
-    end-run : RunOf b list (endOf b list seed)
+    end-run : RunFor (cablingIn b) list (endOf b list seed)
     unfolding endOf
-    end-run = after-run fabric listed (sumOf b list) seed (fresh-run b list)
+    end-run = after-run tabled listed (sumOf b list) seed (fresh-reached b list)
 
     pub end-all : allDelivered (endOf b list seed) ≡ true
     unfolding endOf
@@ -65,10 +71,10 @@ module _ (b list : List ℕ) (fine : startFault b list ≡ Fine) where
     end-moves = delivered-sum end-run end-all
 
     pub end-messages : endOf b list seed .messages ≡ messagesIn list
-    end-messages = reached-state fabric listed end-run .1 .kept .messages
+    end-messages = reached-state tabled listed end-run .1 .kept .messages
 
     pub end-delivered : (m : ℕ) → m < messagesIn list → isDelivered (endOf b list seed) m ≡ true
-    end-delivered = all-delivered fabric listed end-run .0 end-moves
+    end-delivered = all-delivered tabled listed end-run .0 (end-moves ∙ sym (sum-read b list))
 
     pub end-free : (c : ℕ) → holder (endOf b list seed) c ≡ 0
-    end-free = every-link-free fabric listed end-run end-delivered
+    end-free = every-link-free tabled listed end-run end-delivered

@@ -9,7 +9,7 @@ use Rattle.order.specs.Seed.{nextSeed, lookAt}
 use Rattle.order.proofs.Places.{look-low}
 use Rattle.machine.specs.declared.Record.{Record}
 use Rattle.machine.specs.Step.{stepOf}
-use Rattle.machine.specs.Runs.{Fabric, Listed, allMoves, Reached, move, successful}
+use Rattle.machine.specs.Runs.{Tabled, Listed, allMoves, Reached, move, successful}
 use Rattle.machine.specs.Ready.{messagesOf, allDelivered}
 use Rattle.machine.proofs.Drain.{never-more, all-delivered, one-less}
 use Rattle.machine.proofs.Ready.{ready-moves, every-delivered, messages-listed, one-ready}
@@ -26,9 +26,9 @@ pub after-turn : (k seed : ℕ) (r : Record) → allDelivered r ≡ false → af
 unfolding after
 after-turn k seed r d = rw (d, after)
 
-module _ {n : ℕ} {edge : ℕ → ℕ → Bool} {labels free falling list : List ℕ} (fabric : Fabric n edge labels free falling) (listed : Listed n list) where
+module _ {n : ℕ} {edge : ℕ → ℕ → Bool} {labels free falling list : List ℕ} (tabled : Tabled n edge labels free falling) (listed : Listed n list) where
   abbrev sum : ℕ
-  sum = allMoves edge labels list
+  sum = allMoves n edge labels list
 
   abbrev Run : Record → Type 0
   Run r = Reached n labels free falling list r
@@ -43,22 +43,22 @@ module _ {n : ℕ} {edge : ℕ → ℕ → Bool} {labels free falling list : Lis
       pub turn-moves : successful (stepOf r (turnOf seed r .message) .answer) ≡ true
       unfolding turnOf
       turn-moves =
-          let s = one-ready fabric listed run d in
+          let s = one-ready tabled listed run d in
           let l = s .low in
           let c = chosen-ready r (lookAt (nextSeed seed) (messagesOf r)) (look-low (nextSeed seed) (messagesOf r) (omega arith)) s in
           sym (ready-moves r _ (c .0)) ∙ c .1
 
       pub turn-less : suc (sum - turnOf seed r .«record» .moves) ≡ sum - r .moves
       unfolding turnOf
-      turn-less = one-less fabric listed run _ turn-moves
+      turn-less = one-less tabled listed run _ turn-moves
 
   -- where no move is left every message is delivered
   none-left : {r : Record} → Run r → sum - r .moves ≡ 0 → allDelivered r ≡ true
   none-left {r} run z =
-      let b = never-more fabric listed run in
+      let b = never-more tabled listed run in
       let e : r .moves ≡ sum = omega arith in
-      let k = messages-listed fabric listed run in
-      sym (every-delivered r (λ m l. all-delivered fabric listed run .0 e m (omega arith)))
+      let k = messages-listed tabled listed run in
+      sym (every-delivered r (λ m l. all-delivered tabled listed run .0 e m (omega arith)))
 
   pub after-run : (k seed : ℕ) {r : Record} → Run r → Run (after k seed r)
   unfolding after
@@ -98,5 +98,5 @@ module _ {n : ℕ} {edge : ℕ → ℕ → Bool} {labels free falling list : Lis
       let e = ap (λ (x : Record). x .moves) (after-turn k seed r d) in
       let i = after-count k (turnOf seed r .seed) (turn-run run seed) in
       let l = turn-less run seed d in
-      let b = never-more fabric listed (turn-run run seed) in
+      let b = never-more tabled listed (turn-run run seed) in
       omega arith)

@@ -2,10 +2,10 @@
 use mathlib.Core.Bool.{true, false}
 use mathlib.Core.List.{List}
 use Prim.Native.Nat.{ℕ, zero, suc}
-use Rattle.nodes.specs.Limits.{maxNodes}
 use Rattle.cabling.specs.Cabling.{links}
-use Rattle.rule.specs.Labels.{labelsOf}
-use Rattle.format.specs.Contents.{nodesIn, pairsIn}
+use Rattle.fabric.specs.Fabric.{labelsFor}
+use Rattle.format.specs.Contents.{nodesIn}
+use Rattle.image.specs.Image.{cablingIn}
 use Rattle.machine.specs.declared.Record.{Record}
 use Rattle.machine.specs.Runs.{allMoves}
 use Rattle.machine.specs.Ready.{allDelivered}
@@ -20,7 +20,7 @@ after (suc k) seed r = elim (allDelivered r) [ true ↦ r | false ↦ after k (t
 
 -- demand 3's "sum of (shortest lawful hops + 1)" for the messages of the list: so many turns a drain takes
 abbrev pub sumOf : List ℕ → List ℕ → ℕ
-sumOf b list = allMoves (links (pairsIn b)) (labelsOf maxNodes (links (pairsIn b)) (nodesIn b)) list
+sumOf b list = allMoves (nodesIn b) (links (cablingIn b)) (labelsFor (cablingIn b)) list
 
 -- a whole drain, from a fresh start on
 unfoldable pub endOf : List ℕ → List ℕ → ℕ → Record

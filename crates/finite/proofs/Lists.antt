@@ -87,6 +87,12 @@ sets-more l k s i h =
     sym (ap (sets l k) (ap (λ (j : ℕ). take j s) (add-one i) ∙ take-suc s i 0 h) ∙ sets-snoc l k (take i s) (getD s i 0)
     ∙ ap (λ (j : ℕ). set (sets l k (take i s)) (k + j) (getD s i 0)) (length-take-le i s (omega arith)))
 
+-- two lists stored one behind the other are stored as one
+pub sets-append : (b : List ℕ) (k : ℕ) (xs ys : List ℕ) → sets (sets b k xs) (k + length xs) ys ≡ sets b k (xs ++ ys)
+sets-append b k [] ys = ap (λ (i : ℕ). sets b i ys) (add-zero k)
+sets-append b k (x ∷ xs) ys =
+    ap (λ (i : ℕ). sets (sets (set b k x) (suc k) xs) i ys) (add-suc k (length xs) ∙ sym (suc-add k (length xs))) ∙ sets-append (set b k x) (suc k) xs ys
+
 -- stored from the front, it stands before what is left
 pub sets-front : (l s : List ℕ) → length s ≤ length l → sets l 0 s ≡ s ++ drop (length s) l
 sets-front l s h =

@@ -42,6 +42,12 @@ unfolding sumTo
 sum-zero zero f h = refl
 sum-zero (suc n) f h = ap₂ _+_ (sum-zero n f (λ v l. h v (le-step l))) (h n (lt-suc-self n))
 
+-- the first term apart
+pub sum-first : (n : ℕ) (f : ℕ → ℕ) → sumTo (suc n) f ≡ f 0 + sumTo n (λ j. f (suc j))
+unfolding sumTo
+sum-first zero f = omega arith
+sum-first (suc n) f = let e = sum-first n f in omega arith
+
 -- a sum whose terms from m on are 0
 pub sum-cut : (m n : ℕ) (f : ℕ → ℕ) → m ≤ n → ((v : ℕ) → m ≤ v → f v ≡ 0) → sumTo n f ≡ sumTo m f
 sum-cut m n f l h = let (j, e) = le-dest l in ap (λ (x : ℕ). sumTo x f) (sym e) ∙ go j

@@ -1,28 +1,39 @@
 -- An image in order is the one that is written from its bodies.
 use mathlib.Core.Path.{_≡_, refl, sym, _∙_, ap, ap₂}
 use mathlib.Core.Bool.{true}
-use mathlib.Core.List.{List, _∷_, _++_}
+use mathlib.Core.List.{List, [], _∷_, _++_}
+use mathlib.Core.Logic.{_↔_}
 use Prim.Native.Nat.{ℕ, zero, suc, _+_, _*_, _/_, _%_, _≤_}
 use native.Mathlib.Omega.{arith}
 use lib.ListN.{length, getD, take, drop, take-append-drop}
 use lib.Seq.{drop-drop, drop-length}
+use Rattle.finite.proofs.Truth.{both, and-l, and-r}
+use Rattle.finite.proofs.Lists.{alike-eq, eq-alike}
 use Rattle.format.specs.Contents.{numberAt, kindAt, secondAt, lengthAt, beginOf, inOrder}
-use Rattle.format.specs.Bytes.{entriesOf, joinedUp, imageFrom, bodyAt, bodiesFrom}
+use Rattle.format.specs.Bytes.{AllBytes, entriesOf, lengthsOf, joinedUp, imageFrom, bodyAt, bodiesFrom, sameBodies}
 use Rattle.format.proofs.Slices.{drop-next}
 use Rattle.format.proofs.Contents.{Parts, in-order-parts}
 use Rattle.format.proofs.Order.{begin-none, begin-more, parts-fit, parts-body, in-order-size}
-use Rattle.format.proofs.Written.{Bytes}
 
 pub bodies-length : (b : List ℕ) (i m : ℕ) → length (bodiesFrom b i m) ≡ m
 unfolding bodiesFrom
 bodies-length b i zero = refl
 bodies-length b i (suc m) = ap suc (bodies-length b (suc i) m)
 
+-- the test of the bodies passes exactly where they are the image's
+pub same-bodies-iff : (b : List ℕ) (i : ℕ) (l : List (List ℕ)) → (sameBodies b i l ≡ true) ↔ (bodiesFrom b i (length l) ≡ l)
+unfolding sameBodies bodiesFrom
+same-bodies-iff b i [] = (λ h. refl, λ e. refl)
+same-bodies-iff b i (body ∷ l) = (
+  λ h. ap₂ _∷_ (alike-eq _ _ (and-l _ _ h)) (same-bodies-iff b (suc i) l .0 (and-r _ _ h)),
+  λ e. both (eq-alike (cc)) (same-bodies-iff b (suc i) l .1 (cc)),
+)
+
 -- the two bytes of a number
-low-of : (b : List ℕ) (j : ℕ) {n : ℕ} → Bytes b → n ≡ numberAt b j → n % 256 ≡ getD b j 0
+low-of : (b : List ℕ) (j : ℕ) {n : ℕ} → AllBytes b → n ≡ numberAt b j → n % 256 ≡ getD b j 0
 low-of b j byte e = let x = byte j in omega arith
 
-high-of : (b : List ℕ) (j : ℕ) {n : ℕ} → Bytes b → n ≡ numberAt b j → n / 256 % 256 ≡ getD b (j + 1) 0
+high-of : (b : List ℕ) (j : ℕ) {n : ℕ} → AllBytes b → n ≡ numberAt b j → n / 256 % 256 ≡ getD b (j + 1) 0
 high-of b j byte e = let x = byte j in let y = byte (j + 1) in omega arith
 
 -- the six bytes of an entry, and what follows
@@ -52,8 +63,8 @@ module _ (b : List ℕ) (k : ℕ) (p : Parts b k) where
       (back ∙ ap (λ (n : ℕ). drop n b) (begin-more b k i) ∙ sym (drop-drop L (beginOf b k i) b))
       ∙ take-append-drop L (drop (beginOf b k i) b)
 
-  entries-back : Bytes b → 2 + 6 * k ≤ length b → (m i : ℕ) → i + m ≡ k
-      → entriesOf (suc i) (beginOf b k i) (bodiesFrom b i m) ++ drop (2 + 6 * k) b ≡ drop (2 + 6 * i) b
+  entries-back : AllBytes b → 2 + 6 * k ≤ length b → (m i : ℕ) → i + m ≡ k
+      → entriesOf (suc i) (beginOf b k i) (lengthsOf (bodiesFrom b i m)) ++ drop (2 + 6 * k) b ≡ drop (2 + 6 * i) b
   unfolding entriesOf bodiesFrom
   entries-back byte long zero i e = let last : k ≡ i = omega arith in ap (λ (n : ℕ). drop (2 + 6 * n) b) last
   entries-back byte long (suc m) i e =
@@ -71,7 +82,7 @@ module _ (b : List ℕ) (k : ℕ) (p : Parts b k) where
       let s = six b i (omega arith) in
       cc
 
-pub in-order-from : (b : List ℕ) (k : ℕ) → Bytes b → inOrder b k ≡ true → b ≡ imageFrom (bodiesFrom b 0 k)
+pub in-order-from : (b : List ℕ) (k : ℕ) → AllBytes b → inOrder b k ≡ true → b ≡ imageFrom (bodiesFrom b 0 k)
 unfolding imageFrom
 in-order-from b k byte h =
     let p = in-order-parts b k h in

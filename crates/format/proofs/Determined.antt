@@ -1,17 +1,14 @@
 -- Each promise determines its answer: two outcomes that it allows are equal.
 use mathlib.Core.Path.{_≡_, sym, _∙_}
-use mathlib.Core.Bool.{Bool}
 use mathlib.Core.List.{List}
 use Prim.Native.Nat.{ℕ}
-use Rattle.format.specs.Contents.{numberAt, entryOf, inOrder, nodesIn, zeroIn, pairsIn}
+use Rattle.format.specs.Contents.{numberAt, entryOf, nodesIn, zeroIn, pairsIn}
+use Rattle.format.specs.Bytes.{entryBytes, bodyAt}
 use Rattle.format.specs.declared.Entry.{Entry}
 
 module _ (b : List ℕ) where
   pub entry-determined : (i : ℕ) (r s : Entry) → r ≡ entryOf b i → s ≡ entryOf b i → r ≡ s
   entry-determined i r s p q = p ∙ sym q
-
-  pub in-order-determined : (k : ℕ) (r s : Bool) → r ≡ inOrder b k → s ≡ inOrder b k → r ≡ s
-  in-order-determined k r s p q = p ∙ sym q
 
   pub nodes-determined : (r s : ℕ) → r ≡ nodesIn b → s ≡ nodesIn b → r ≡ s
   nodes-determined r s p q = p ∙ sym q
@@ -24,3 +21,9 @@ module _ (b : List ℕ) where
 
   pub number-determined : (i r s : ℕ) → r ≡ numberAt b i → s ≡ numberAt b i → r ≡ s
   number-determined i r s p q = p ∙ sym q
+
+  pub body-determined : (i : ℕ) (r s : List ℕ) → r ≡ bodyAt b i → s ≡ bodyAt b i → r ≡ s
+  body-determined i r s p q = p ∙ sym q
+
+pub entry-bytes-determined : (kind offset size : ℕ) (r s : List ℕ) → r ≡ entryBytes kind offset size → s ≡ entryBytes kind offset size → r ≡ s
+entry-bytes-determined kind offset size r s p q = p ∙ sym q

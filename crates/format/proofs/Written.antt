@@ -5,36 +5,51 @@ use mathlib.Core.List.{List, [], _∷_, _++_}
 use Prim.Native.Nat.{ℕ, zero, suc, _+_, _*_, _/_, _%_, _≤_, _<_}
 use native.Mathlib.Nat.{zero-add, add-zero}
 use native.Mathlib.Omega.{arith}
-use lib.ListN.{length, getD, take, drop, length-append}
+use lib.ListN.{length, getD, take, drop, length-append, length-map}
 use lib.Seq.{getD-drop, drop-drop, drop-at, drop-append-seam, take-append-seam}
 use Rattle.finite.specs.Truth.{same}
+use Rattle.finite.specs.Sum.{sumTo}
 use Rattle.finite.proofs.Truth.{bcase, same-eq, same-ne}
+use Rattle.finite.proofs.Sum.{sum-first}
 use Rattle.finite.proofs.Search.{every-all}
 use Rattle.format.specs.Contents.{lengthAt, beginOf, fitting, inOrder}
-use Rattle.format.specs.Bytes.{entriesOf, joinedUp, imageFrom, bodiesFrom}
+use Rattle.format.specs.Bytes.{AllBytes, entryBytes, entriesOf, lengthsOf, joinedUp, imageFrom, bodiesFrom}
 use Rattle.format.proofs.Contents.{parts-in-order}
 use Rattle.format.proofs.Order.{Fits, fits-fitting, begin-none, begin-more}
 
--- each number of the list is a byte
-abbrev pub Bytes : List ℕ → Type 0
-Bytes b = (i : ℕ) → getD b i 0 < 256
-
-entries-length : (kind offset : ℕ) (bodies : List (List ℕ)) → length (entriesOf kind offset bodies) ≡ 6 * length bodies
+pub entries-length : (kind offset : ℕ) (sizes : List ℕ) → length (entriesOf kind offset sizes) ≡ 6 * length sizes
 unfolding entriesOf
 entries-length kind offset [] = refl
-entries-length kind offset (body ∷ bodies) = let h = entries-length (suc kind) (offset + length body) bodies in omega arith
+entries-length kind offset (size ∷ sizes) = let h = entries-length (suc kind) (offset + size) sizes in omega arith
+
+-- the entries of the first i sizes, then the next one
+pub entries-more : (kind offset : ℕ) (sizes : List ℕ) (i : ℕ) → i < length sizes
+    → entriesOf kind offset (take (suc i) sizes)
+    ≡ entriesOf kind offset (take i sizes) ++ entryBytes (kind + i) (offset + sumTo i (λ j. getD sizes j 0)) (getD sizes i 0)
+unfolding entriesOf sumTo
+entries-more kind offset [] i l = absurd (omega arith)
+entries-more kind offset (size ∷ sizes) zero l = simp add-zero
+entries-more kind offset (size ∷ sizes) (suc i) l =
+    let on : suc kind + i ≡ kind + suc i = omega arith in
+    let further : offset + size + sumTo i (λ j. getD sizes j 0) ≡ offset + sumTo (suc i) (λ j. getD (size ∷ sizes) j 0) = let e = sum-first i (λ j. getD (size ∷ sizes) j 0) in omega arith in
+    ap (λ (r : List ℕ). entryBytes kind offset size ++ r)
+    (entries-more (suc kind) (offset + size) sizes i (omega arith)
+    ∙ ap₂ (λ (k o : ℕ). entriesOf (suc kind) (offset + size) (take i sizes) ++ entryBytes k o (getD sizes i 0)) on further)
+
+front-length : (bodies : List (List ℕ)) → length (entriesOf 1 (2 + 6 * length bodies) (lengthsOf bodies)) ≡ 6 * length bodies
+front-length bodies = entries-length 1 (2 + 6 * length bodies) (lengthsOf bodies) ∙ ap (λ (n : ℕ). 6 * n) (length-map bodies length)
 
 pub from-length : (bodies : List (List ℕ)) → length (imageFrom bodies) ≡ 2 + 6 * length bodies + length (joinedUp bodies)
 unfolding imageFrom
 from-length bodies =
-    let e = entries-length 1 (2 + 6 * length bodies) bodies in
-    let a = length-append (entriesOf 1 (2 + 6 * length bodies) bodies) (joinedUp bodies) in
+    let e = front-length bodies in
+    let a = length-append (entriesOf 1 (2 + 6 * length bodies) (lengthsOf bodies)) (joinedUp bodies) in
     omega arith
 
 -- from entry i on, the image b has entries of these bodies, which stand from `offset` on to its end
 record Laid (b : List ℕ) (i offset : ℕ) (bodies : List (List ℕ)) : Type 0 where
   rest : List ℕ
-  entries : drop (2 + 6 * i) b ≡ entriesOf (suc i) offset bodies ++ rest
+  entries : drop (2 + 6 * i) b ≡ entriesOf (suc i) offset (lengthsOf bodies) ++ rest
   parts : drop offset b ≡ joinedUp bodies
   ends : offset + length (joinedUp bodies) ≡ length b
 
@@ -43,8 +58,8 @@ unfolding imageFrom
 laid-all bodies = record {
   rest = joinedUp bodies;
   entries = refl;
-  parts = drop-at (1 ∷ length bodies ∷ entriesOf 1 (2 + 6 * length bodies) bodies) (joinedUp bodies) (2 + 6 * length bodies)
-      (let e = entries-length 1 (2 + 6 * length bodies) bodies in omega arith);
+  parts = drop-at (1 ∷ length bodies ∷ entriesOf 1 (2 + 6 * length bodies) (lengthsOf bodies)) (joinedUp bodies) (2 + 6 * length bodies)
+      (let e = front-length bodies in omega arith);
   ends = sym (from-length bodies);
 }
 
@@ -137,26 +152,27 @@ module _ (body : List ℕ) (rest : List (List ℕ)) (small : length (imageFrom (
 
 -- ---- the bytes of the image
 
-bytes-append : (l m : List ℕ) → Bytes l → Bytes m → Bytes (l ++ m)
+bytes-append : (l m : List ℕ) → AllBytes l → AllBytes m → AllBytes (l ++ m)
 bytes-append [] m p q i = q i
 bytes-append (x ∷ l) m p q zero = p 0
 bytes-append (x ∷ l) m p q (suc i) = bytes-append l m (λ j. p (suc j)) q i
 
-entries-bytes : (kind offset : ℕ) (bodies : List (List ℕ)) → kind + length bodies ≤ 256 → Bytes (entriesOf kind offset bodies)
+entries-bytes : (kind offset : ℕ) (sizes : List ℕ) → kind + length sizes ≤ 256 → AllBytes (entriesOf kind offset sizes)
 unfolding entriesOf
 entries-bytes kind offset [] h i = omega arith
-entries-bytes kind offset (body ∷ bodies) h zero = omega arith
-entries-bytes kind offset (body ∷ bodies) h (suc zero) = omega arith
-entries-bytes kind offset (body ∷ bodies) h (suc (suc zero)) = omega arith
-entries-bytes kind offset (body ∷ bodies) h (suc (suc (suc zero))) = omega arith
-entries-bytes kind offset (body ∷ bodies) h (suc (suc (suc (suc zero)))) = omega arith
-entries-bytes kind offset (body ∷ bodies) h (suc (suc (suc (suc (suc zero))))) = omega arith
-entries-bytes kind offset (body ∷ bodies) h (suc (suc (suc (suc (suc (suc i)))))) = entries-bytes (suc kind) (offset + length body) bodies (omega arith) i
+entries-bytes kind offset (size ∷ sizes) h zero = omega arith
+entries-bytes kind offset (size ∷ sizes) h (suc zero) = omega arith
+entries-bytes kind offset (size ∷ sizes) h (suc (suc zero)) = omega arith
+entries-bytes kind offset (size ∷ sizes) h (suc (suc (suc zero))) = omega arith
+entries-bytes kind offset (size ∷ sizes) h (suc (suc (suc (suc zero)))) = omega arith
+entries-bytes kind offset (size ∷ sizes) h (suc (suc (suc (suc (suc zero))))) = omega arith
+entries-bytes kind offset (size ∷ sizes) h (suc (suc (suc (suc (suc (suc i)))))) = entries-bytes (suc kind) (offset + size) sizes (omega arith) i
 
-pub from-bytes : (bodies : List (List ℕ)) → Bytes (joinedUp bodies) → length bodies ≤ 255 → Bytes (imageFrom bodies)
+pub from-bytes : (bodies : List (List ℕ)) → AllBytes (joinedUp bodies) → length bodies ≤ 255 → AllBytes (imageFrom bodies)
 unfolding imageFrom
 from-bytes bodies p h zero = omega arith
 from-bytes bodies p h (suc zero) = omega arith
 from-bytes bodies p h (suc (suc i)) =
     let offset : ℕ = 2 + 6 * length bodies in
-    bytes-append (entriesOf 1 offset bodies) (joinedUp bodies) (entries-bytes 1 offset bodies (omega arith)) p i
+    let e = length-map bodies length in
+    bytes-append (entriesOf 1 offset (lengthsOf bodies)) (joinedUp bodies) (entries-bytes 1 offset (lengthsOf bodies) (omega arith)) p i

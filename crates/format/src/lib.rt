@@ -1,13 +1,10 @@
 // The layout of an image: contents entries, and bodies that follow them without a gap.
 ghost use mathlib.Core.Path.{_≡_};
-ghost use Prim.Native.Nat.{suc, _≤_};
+ghost use Prim.Native.Nat.{_≤_};
 ghost use lib.ListN.{take, drop};
-ghost use Rattle.finite.specs.Truth.{_&_, same};
-ghost use Rattle.format.specs.Contents.{numberAt, kindAt, secondAt, offsetAt, entryOf, inOrder, bodyStart, nodesIn, zeroIn, pairsIn};
+ghost use Rattle.format.specs.Contents.{numberAt, entryOf, bodyStart, nodesIn, zeroIn, pairsIn};
+ghost use Rattle.format.specs.Bytes.{entryBytes, bodyAt};
 use network::byte_at;
-
-// "Not over 65,535 bytes"
-pub const MAX_IMAGE: usize = 65535;
 
 // A contents entry as stored, or none.
 pub enum Entry {
@@ -55,51 +52,18 @@ pub fn entry_at(image: &[u8], number: usize) -> Entry
     }
 }
 
-// Is entry i of kind i + 1, its second byte zero, and its offset `begin`?
-fn entry_fits(image: &[u8], i: usize, begin: usize) -> bool
-    requires { ⌜ i ≤ 255 ⌝ }
-    ensures { λ r. ⌜ r ≡ same (kindAt (now (image .entry)) i) (suc i) & same (secondAt (now (image .entry)) i) 0 & same (offsetAt (now (image .entry)) i) begin ⌝ }
+// An entry as it is written: kind, zero, offset and length, low byte first.
+pub fn entry_bytes(kind: u8, offset: usize, size: usize) -> [u8; 6]
+    ensures { λ r. ⌜ r ≡ entryBytes kind offset size ⌝ }
 {
-    let at = 6 * i;
-    if byte_at(image, 2 + at) != i + 1 {
-        return false;
-    }
-    if byte_at(image, 3 + at) != 0 {
-        return false;
-    }
-    if number_at(image, 4 + at) != begin {
-        return false;
-    }
-    true
-}
-
-// Are the contents those of an image with kinds 1, .., k?
-pub fn in_order(image: &[u8], k: usize) -> bool
-    ensures { λ r. ⌜ r ≡ inOrder (now (image .entry)) k ⌝ }
-{
-    if MAX_IMAGE < image.len() {
-        return false;
-    }
-    if byte_at(image, 0) != 1 {
-        return false;
-    }
-    if byte_at(image, 1) != k {
-        return false;
-    }
-    let mut begin = 2 + 6 * k;
-    for i in 0..k {
-        if !entry_fits(image, i, begin) {
-            return false;
-        }
-        begin += number_at(image, 6 + 6 * i);
-    }
-    if begin != image.len() {
-        return false;
-    }
-    if number_at(image, 6) < 2 {
-        return false;
-    }
-    true
+    [
+        kind,
+        0,
+        (offset % 256) as u8,
+        (offset / 256 % 256) as u8,
+        (size % 256) as u8,
+        (size / 256 % 256) as u8,
+    ]
 }
 
 // Where the body of kind 1 begins.
@@ -148,4 +112,17 @@ pub fn pairs_in(image: &[u8]) -> &[u8]
         return &image[..0];
     }
     part(image, body_start(image) + 2, size - 2)
+}
+
+// The body of entry i.
+pub fn body_at(image: &[u8], i: usize) -> &[u8]
+    ensures { λ r. ⌜ now r ≡ bodyAt (now (image .entry)) i ⌝ }
+{
+    if image.len() / 6 <= i {
+        return &image[..0];
+    }
+    let at = 6 * i;
+    let offset = number_at(image, 4 + at);
+    let size = number_at(image, 6 + at);
+    part(image, offset, size)
 }

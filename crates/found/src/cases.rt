@@ -1,13 +1,13 @@
 // The networks that 01 marks Run: "empty input, 1. N of 1 or 65, 2; 64 in a path, accepted. 513 pairs, 3. (1,0), 4. A pair twice, 5. Degree 16 accepted, 17 gives
 // 6. Links 0-1 and 2-3, 7 at place 2. No messages: `drained 0 0`."
 ghost use Prim.Native.Nat.{_≤_, _<_};
+ghost use lib.ListN.{length};
 use crate::inputs;
-use grown::Grown;
-use grown::ROOM;
+use crate::inputs::ROOM;
 use refusal::Verdict;
 
 // A links image up to its pairs.
-fn head(n: u8, pairs: usize) -> Grown
+fn head(n: u8, pairs: usize, buffer: &mut [u8]) -> usize
     requires { ⌜ pairs ≤ 1000 ⌝ }
 {
     let size = 2 + 2 * pairs;
@@ -23,11 +23,12 @@ fn head(n: u8, pairs: usize) -> Grown
         n,
         0,
     ];
-    grown::append(grown::empty(), &bytes)
+    laid::put(buffer, 0, &bytes)
 }
 
-fn pair(g: Grown, a: u8, b: u8) -> Grown {
-    grown::byte(grown::byte(g, a), b)
+fn pair(buffer: &mut [u8], at: usize, a: u8, b: u8) -> usize {
+    let bytes = [a, b];
+    laid::put(buffer, at, &bytes)
 }
 
 // Node b's neighbour below it: the node before it, or hub 0.
@@ -37,82 +38,86 @@ fn below(b: u8, in_a_path: bool) -> u8
     if in_a_path { b - 1 } else { 0 }
 }
 
-fn tree(n: u8, in_a_path: bool) -> Grown
+// The path 0-1-2-.., or hub 0 and its leaves.
+fn tree(n: u8, in_a_path: bool, buffer: &mut [u8]) -> usize
     requires { ⌜ 0 < n ⌝ }
 {
-    let mut image = head(n, n as usize - 1);
+    let mut at = head(n, n as usize - 1, buffer);
     for b in 1..n {
-        let more = pair(image, below(b, in_a_path), b);
-        image = more;
+        at = pair(buffer, at, below(b, in_a_path), b);
     }
-    image
-}
-
-// 0-1-2-..
-fn path(n: u8) -> Grown
-    requires { ⌜ 0 < n ⌝ }
-{
-    tree(n, true)
-}
-
-// Hub 0 and its leaves.
-fn star(leaves: u8) -> Grown
-    requires { ⌜ leaves ≤ 63 ⌝ }
-{
-    tree(leaves + 1, false)
+    at
 }
 
 // 513 pairs in rising order: from node 0 to nodes 32 to 63, from node 1 to the same, ..
-fn many() -> Grown {
-    let mut image = head(64, 513);
+fn many(buffer: &mut [u8]) -> usize {
+    let mut at = head(64, 513, buffer);
     for k in 0..513usize {
-        let more = pair(image, (k / 32) as u8, (32 + k % 32) as u8);
-        image = more;
+        at = pair(buffer, at, (k / 32) as u8, (32 + k % 32) as u8);
     }
-    image
-}
-
-fn verdict(bytes: [u8; ROOM], len: usize) -> Verdict {
-    image::verdict(inputs::front(&bytes, len))
+    at
 }
 
 // A line of what it is and what becomes of it.
-fn tell(name: &[u8], image: Grown) {
-    let bytes = image.bytes;
-    let found = verdict(bytes, image.len);
+fn tell(name: &[u8], image: &[u8]) {
+    let found = image::verdict(image);
     io::write_all(1, name);
     match found {
-        Verdict::Fault(r) => programs::say(lines::refusal_line(r)),
+        Verdict::Fault(r) => {
+            let mut out = [0u8; lines::LONGEST_REFUSAL];
+            let written = lines::refusal_line(r, &mut out);
+            programs::say(written, &out);
+        }
         Verdict::Fine => {
             io::write_all(1, b"accepted\n");
         }
     }
 }
 
-fn drain_none(bytes: [u8; ROOM], len: usize) {
-    inputs::tell_drained(inputs::front(&bytes, len), b"");
+fn tell_tree(name: &[u8], n: u8, in_a_path: bool)
+    requires { ⌜ 0 < n ⌝ }
+{
+    let mut buffer = [0u8; ROOM];
+    let end = tree(n, in_a_path, &mut buffer);
+    tell(name, inputs::front(&buffer, end));
+}
+
+fn tell_many(name: &[u8]) {
+    let mut buffer = [0u8; ROOM];
+    let end = many(&mut buffer);
+    tell(name, inputs::front(&buffer, end));
+}
+
+// The network of n nodes and these pairs.
+fn tell_pairs(name: &[u8], n: u8, pairs: &[u8])
+    requires { ⌜ length (now pairs) ≤ 1000 ⌝ }
+{
+    let mut buffer = [0u8; ROOM];
+    let at = head(n, pairs.len() / 2, &mut buffer);
+    let end = laid::put(&mut buffer, at, pairs);
+    tell(name, inputs::front(&buffer, end));
 }
 
 fn tell_no_messages() {
-    let link = path(2);
-    let bytes = link.bytes;
+    let mut buffer = [0u8; ROOM];
+    let end = tree(2, true, &mut buffer);
     io::write_all(1, b"no messages: ");
-    drain_none(bytes, link.len);
+    inputs::tell_drained(inputs::front(&buffer, end), b"");
 }
 
 pub fn tell_all() {
-    tell(b"no input: ", grown::empty());
-    tell(b"1 node: ", path(1));
-    tell(b"65 nodes: ", path(65));
-    tell(b"64 nodes in a path: ", path(64));
-    tell(b"513 pairs: ", many());
-    tell(b"the pair 1 0: ", pair(head(2, 1), 1, 0));
-    tell(
-        b"a pair twice: ",
-        pair(pair(pair(head(3, 3), 0, 1), 0, 1), 1, 2),
-    );
-    tell(b"degree 16: ", star(16));
-    tell(b"degree 17: ", star(17));
-    tell(b"links 0-1 and 2-3: ", pair(pair(head(4, 2), 0, 1), 2, 3));
+    tell(b"no input: ", b"");
+    tell_tree(b"1 node: ", 1, true);
+    tell_tree(b"65 nodes: ", 65, true);
+    tell_tree(b"64 nodes in a path: ", 64, true);
+    tell_many(b"513 pairs: ");
+    let falling = [1u8, 0];
+    tell_pairs(b"the pair 1 0: ", 2, &falling);
+    let twice = [0u8, 1, 0, 1, 1, 2];
+    tell_pairs(b"a pair twice: ", 3, &twice);
+    tell_tree(b"degree 16: ", 17, false);
+    tell_tree(b"degree 17: ", 18, false);
+    let apart = [0u8, 1, 2, 3];
+    tell_pairs(b"links 0-1 and 2-3: ", 4, &apart);
     tell_no_messages();
 }

@@ -1,6 +1,7 @@
 // What the programs are given: the front of a buffer, and Drain's input.
-use grown::Grown;
-use grown::ROOM;
+
+// More than any input and any line here takes.
+pub const ROOM: usize = 2048;
 
 // The first n bytes; all where there are fewer.
 pub fn front(s: &[u8], n: usize) -> &[u8] {
@@ -8,23 +9,21 @@ pub fn front(s: &[u8], n: usize) -> &[u8] {
 }
 
 // "an image length (16 bits, low first), the image, a 32-bit seed (low first) and pairs", for seed 0
-fn for_drain(image: &[u8], messages: &[u8]) -> Grown {
+fn for_drain(image: &[u8], messages: &[u8], buffer: &mut [u8]) -> usize {
     let size = image.len();
     let length = [(size % 256) as u8, (size / 256 % 256) as u8];
     let seed = [0u8; 4];
-    let a = grown::append(grown::empty(), &length);
-    let b = grown::append(a, image);
-    let c = grown::append(b, &seed);
-    grown::append(c, messages)
-}
-
-fn drain_front(bytes: [u8; ROOM], len: usize) {
-    programs::say(programs::drain::output(front(&bytes, len)));
+    let a = laid::put(buffer, 0, &length);
+    let b = laid::put(buffer, a, image);
+    let c = laid::put(buffer, b, &seed);
+    laid::put(buffer, c, messages)
 }
 
 // Prints what Drain prints for this image, seed 0 and these messages.
 pub fn tell_drained(image: &[u8], messages: &[u8]) {
-    let input = for_drain(image, messages);
-    let bytes = input.bytes;
-    drain_front(bytes, input.len);
+    let mut input = [0u8; ROOM];
+    let end = for_drain(image, messages, &mut input);
+    let mut out = [0u8; programs::drain::LONGEST];
+    let written = programs::drain::output(front(&input, end), &mut out);
+    programs::say(written, &out);
 }

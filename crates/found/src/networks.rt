@@ -2,6 +2,7 @@
 // seed 0 and the message that is looked at first; the bytes of both images and the falling rows, where the entry has them.
 ghost use Prim.Native.Nat.{_+_, _≤_, _<_};
 use crate::inputs;
+use crate::inputs::ROOM;
 use written::Written;
 
 // An entry: its nodes, the places of its lists, and the place behind it.
@@ -67,9 +68,11 @@ fn entry_at(table: &[u8], at: usize) -> Entry
 
 // A line of a word and bytes.
 fn tell_bytes(word: &[u8], bytes: &[u8]) {
-    io::write_all(1, word);
-    let fields = lines::byte_fields(grown::empty(), bytes);
-    programs::say(grown::byte(fields, 10));
+    let mut out = [0u8; ROOM];
+    let start = laid::put(&mut out, 0, word);
+    let fields = lines::byte_fields(&mut out, start, bytes);
+    let end = laid::byte(&mut out, fields, 10);
+    io::write_all(1, inputs::front(&out, end));
 }
 
 fn tell_image(image: &[u8], listed: &[u8]) {
@@ -94,9 +97,10 @@ fn tell_messages(image: &[u8], messages: &[u8]) {
         return;
     }
     inputs::tell_drained(image, messages);
-    let look = order::look(order::next_seed(0), messages.len() / 2);
-    io::write_all(1, b"looks");
-    programs::say(grown::byte(lines::field(grown::empty(), look), 10));
+    let look = [order::look(order::next_seed(0), messages.len() / 2)];
+    let mut out = [0u8; ROOM];
+    let end = lines::line(&mut out, 0, b"looks", &look);
+    io::write_all(1, inputs::front(&out, end));
 }
 
 // Writes an image of the entry's network; answers its length, 0 where it is refused.
@@ -109,7 +113,9 @@ fn laid(table: &[u8], e: Entry, full: bool, buffer: &mut [u8]) -> usize {
 }
 
 fn tell_links(table: &[u8], e: Entry, image: &[u8]) {
-    programs::say(programs::show::output(image));
+    let mut out = [0u8; programs::show::LONGEST];
+    let written = programs::show::output(image, &mut out);
+    programs::say(written, &out);
     tell_image(image, list(table, e.links));
     tell_messages(image, list(table, e.messages));
 }

@@ -1,97 +1,112 @@
 -- The checks of an image, case by case.
-use mathlib.Core.Path.{_≡_, _∙_}
+use mathlib.Core.Path.{_≡_, refl, sym, _∙_}
 use mathlib.Core.Bool.{true, false}
 use mathlib.Core.List.{List}
-use Prim.Native.Nat.{ℕ, _≤_, _<_}
+use mathlib.Core.Logic.{_⊎_}
+use Prim.Native.Nat.{ℕ, _<_}
 use native.Mathlib.Omega.{arith}
-use lib.Dec.{leb}
-use borrow.Author.Tests.{le-leb, lt-leb, leb-true, leb-false}
-use Rattle.finite.specs.Truth.{_&_, same}
-use Rattle.finite.specs.Lists.{alike}
-use Rattle.finite.proofs.Truth.{no-tf, bcase, refute, both, and-l, and-r, same-eq, same-ne, eq-same, ne-same}
+use lib.ListN.{drop}
+use Rattle.finite.specs.Truth.{same}
+use Rattle.finite.proofs.Truth.{bcase, refute, same-eq, same-ne, eq-same, ne-same}
 use Rattle.nodes.specs.Limits.{maxNodes}
 use Rattle.refusal.specs.declared.Refusal.{Refusal}
 use Rattle.refusal.specs.declared.Refusal.the-variants.{Contents, Count, Shape, Differs}
+use Rattle.refusal.specs.declared.Verdict.{Verdict}
 use Rattle.refusal.specs.declared.Verdict.the-variants.{Fine, Fault}
 use Rattle.cabling.specs.Cabling.{Good}
 use Rattle.cabling.specs.Faults.{faultOf}
+use Rattle.cabling.specs.Verdicts.{Counted}
+use Rattle.cabling.proofs.Decide.{by, pass, fail}
+use Rattle.cabling.proofs.Tests.{decide-counted}
 use Rattle.cabling.proofs.Meaning.{fault-fine}
-use Rattle.format.specs.Contents.{inOrder, linksKinds, fullKinds, nodesIn, zeroIn, pairsIn}
-use Rattle.image.specs.Image.{imageOf}
-use Rattle.image.specs.Calls.{cablingFault, tablesFault, linksFault, imageFault, andThen}
+use Rattle.format.specs.Contents.{inOrder, linksKinds, fullKinds, nodesIn, zeroIn}
+use Rattle.format.specs.Bytes.{sameBodies}
+use Rattle.format.proofs.Order.{in-order-one}
+use Rattle.image.specs.Image.{bodiesOf, cablingIn}
+use Rattle.image.specs.Calls.{andThen, frontFault, cablingFault, tablesFault, linksFault, imageFault}
 
 pub fault-not-fine : {r : Refusal} → Fault r ≡ Fine → ⊥
 fault-not-fine e = let z : _≡_ {A = ℕ} 0 1 = cc in omega arith
 
--- ---- 2 and 3
+-- ---- one check after the other
 
-pub few-nodes : (b : List ℕ) → nodesIn b < 2 → Fault Count ≡ cablingFault b
-unfolding cablingFault
-few-nodes b h = rw (refute (leb 2 (nodesIn b) & leb (nodesIn b) maxNodes) (λ t. no-tf (and-l _ _ t) (lt-leb _ _ h)), cablingFault)
+pub then-fine : {v : Verdict} (w : Verdict) → v ≡ Fine → andThen v w ≡ w
+unfolding andThen
+then-fine w e = rw e
 
-pub many-nodes : (b : List ℕ) → maxNodes < nodesIn b → Fault Count ≡ cablingFault b
-unfolding cablingFault
-many-nodes b h = rw (refute (leb 2 (nodesIn b) & leb (nodesIn b) maxNodes) (λ t. no-tf (and-r _ _ t) (lt-leb _ _ h)), cablingFault)
+pub then-fault : {v : Verdict} (w : Verdict) {r : Refusal} → v ≡ Fault r → andThen v w ≡ Fault r
+unfolding andThen
+then-fault w e = rw e
 
-module _ (b : List ℕ) (low : 2 ≤ nodesIn b) (high : nodesIn b ≤ maxNodes) where
-  range : leb 2 (nodesIn b) & leb (nodesIn b) maxNodes ≡ true
-  range = both (le-leb _ _ low) (le-leb _ _ high)
+pub and-then-fine : (v w : Verdict) → andThen v w ≡ Fine → (v ≡ Fine) × (w ≡ Fine)
+unfolding andThen
+and-then-fine Fine w h = (refl, h)
+and-then-fine (Fault r) w h = absurd (fault-not-fine h)
 
-  pub not-zero : (zeroIn b ≡ 0 → ⊥) → Fault Shape ≡ cablingFault b
-  unfolding cablingFault
-  not-zero h = rw (range, ne-same h, cablingFault)
+module _ (b : List ℕ) where
+  -- ---- 2 and 3
 
-  pub rest-decides : zeroIn b ≡ 0 → faultOf (nodesIn b) (pairsIn b) ≡ cablingFault b
-  unfolding cablingFault
-  rest-decides h = rw (range, eq-same h, cablingFault)
+  pub front-count : (nodesIn b < 2) ⊎ (maxNodes < nodesIn b) → frontFault b ≡ Fault Count
+  unfolding frontFault
+  front-count h = rw (fail (decide-counted (nodesIn b)) h, frontFault)
 
--- a cabling without a fault is good, and its second byte is zero
-pub cabling-good : (b : List ℕ) → cablingFault b ≡ Fine → Good (nodesIn b) (pairsIn b) × (zeroIn b ≡ 0)
-cabling-good b h =
-    bcase (leb 2 (nodesIn b) & leb (nodesIn b) maxNodes)
-    (λ t.
-    let low = leb-true _ _ (and-l _ _ t) in
-    let high = leb-true _ _ (and-r _ _ t) in
-    bcase (same (zeroIn b) 0)
-    (λ z. (fault-fine _ _ .0 (rest-decides b low high (same-eq _ _ z) ∙ h), same-eq _ _ z))
-    (λ z. absurd (fault-not-fine (not-zero b low high (same-ne _ _ z) ∙ h))))
-    (λ t.
-    bcase (leb 2 (nodesIn b)) (λ l. absurd (fault-not-fine (many-nodes b (above t l) ∙ h))) (λ l. absurd (fault-not-fine (few-nodes b (leb-false _ _ l) ∙ h))))
-  where
-    above : leb 2 (nodesIn b) & leb (nodesIn b) maxNodes ≡ false → leb 2 (nodesIn b) ≡ true → maxNodes < nodesIn b
-    above t l = bcase (leb (nodesIn b) maxNodes) (λ k. no-tf (both l k) t) (λ k. leb-false _ _ k)
+  pub front-shape : Counted (nodesIn b) → (zeroIn b ≡ 0 → ⊥) → frontFault b ≡ Fault Shape
+  unfolding frontFault
+  front-shape c h = rw (pass (decide-counted (nodesIn b)) c, frontFault, ne-same h)
 
--- ---- 8, 1, and the order of all
+  pub front-fine : Counted (nodesIn b) → zeroIn b ≡ 0 → frontFault b ≡ Fine
+  unfolding frontFault
+  front-fine c h = rw (pass (decide-counted (nodesIn b)) c, frontFault, eq-same h)
 
-pub tables-fine : (b : List ℕ) → alike b (imageOf true (nodesIn b) (pairsIn b)) ≡ true → Fine ≡ tablesFault b
-unfolding tablesFault
-tables-fine b h = rw (h, tablesFault)
+  -- a front without a fault has a zero byte
+  pub front-zero : frontFault b ≡ Fine → zeroIn b ≡ 0
+  front-zero h =
+      bcase (same (zeroIn b) 0) (λ t. same-eq _ _ t)
+      (λ t.
+      by (decide-counted (nodesIn b)) (λ c. absurd (fault-not-fine (sym (front-shape c (same-ne _ _ t)) ∙ h)))
+      (λ c. absurd (fault-not-fine (sym (front-count c) ∙ h))))
 
-pub tables-differ : (b : List ℕ) → alike b (imageOf true (nodesIn b) (pairsIn b)) ≡ false → Fault Differs ≡ tablesFault b
-unfolding tablesFault
-tables-differ b h = rw (h, tablesFault)
+  -- a cabling without a fault is good, and its second byte is zero
+  pub cabling-good : cablingFault b ≡ Fine → Good (cablingIn b) × (zeroIn b ≡ 0)
+  cabling-good h = let (f, c) = and-then-fine (frontFault b) (faultOf (cablingIn b)) h in (fault-fine (cablingIn b) .0 c, front-zero f)
 
-pub links-ordered : (b : List ℕ) → inOrder b linksKinds ≡ true → cablingFault b ≡ linksFault b
-unfolding linksFault
-links-ordered b h = rw (h, linksFault)
+  -- ---- 8, 1, and the order of all
 
-pub links-broken : (b : List ℕ) → inOrder b linksKinds ≡ false → Fault Contents ≡ linksFault b
-unfolding linksFault
-links-broken b h = rw (h, linksFault)
+  pub tables-fine : sameBodies b 1 (drop 1 (bodiesOf (cablingIn b))) ≡ true → tablesFault b ≡ Fine
+  unfolding tablesFault
+  tables-fine h = rw (h, tablesFault)
 
-pub not-full : (b : List ℕ) → inOrder b fullKinds ≡ false → linksFault b ≡ imageFault b
-unfolding imageFault
-not-full b h = rw (h, imageFault)
+  pub tables-differ : sameBodies b 1 (drop 1 (bodiesOf (cablingIn b))) ≡ false → tablesFault b ≡ Fault Differs
+  unfolding tablesFault
+  tables-differ h = rw (h, tablesFault)
 
-pub full-faulty : (b : List ℕ) (r : Refusal) → inOrder b fullKinds ≡ true → cablingFault b ≡ Fault r → Fault r ≡ imageFault b
-unfolding imageFault andThen
-full-faulty b r h e = rw (h, imageFault, e)
+  pub tables-same : tablesFault b ≡ Fine → sameBodies b 1 (drop 1 (bodiesOf (cablingIn b))) ≡ true
+  tables-same h = bcase (sameBodies b 1 (drop 1 (bodiesOf (cablingIn b)))) (λ t. t) (λ f. absurd (fault-not-fine (sym (tables-differ f) ∙ h)))
 
-pub full-fine : (b : List ℕ) → inOrder b fullKinds ≡ true → cablingFault b ≡ Fine → tablesFault b ≡ imageFault b
-unfolding imageFault andThen
-full-fine b h e = rw (h, imageFault, e)
+  pub links-ordered : inOrder b linksKinds ≡ true → linksFault b ≡ cablingFault b
+  unfolding linksFault
+  links-ordered h = rw (h, linksFault)
 
--- what a fine verdict says
-pub links-fine : (b : List ℕ) → linksFault b ≡ Fine → cablingFault b ≡ Fine
-links-fine b h =
-    bcase (inOrder b linksKinds) (λ t. links-ordered b t ∙ h) (λ t. absurd (fault-not-fine (links-broken b t ∙ h)))
+  pub links-broken : inOrder b linksKinds ≡ false → linksFault b ≡ Fault Contents
+  unfolding linksFault
+  links-broken h = rw (h, linksFault)
+
+  pub image-full : inOrder b fullKinds ≡ true → imageFault b ≡ andThen (cablingFault b) (tablesFault b)
+  unfolding imageFault
+  image-full h = rw (h, imageFault)
+
+  pub image-links : inOrder b fullKinds ≡ false → imageFault b ≡ linksFault b
+  unfolding imageFault
+  image-links h = rw (h, imageFault)
+
+  -- no image has the contents of both
+  pub not-both : inOrder b linksKinds ≡ true → inOrder b fullKinds ≡ false
+  not-both l = refute _ (λ t. let e = in-order-one b linksKinds fullKinds l t in absurd (omega arith))
+
+  pub image-ordered : inOrder b linksKinds ≡ true → imageFault b ≡ cablingFault b
+  image-ordered l = image-links (not-both l) ∙ links-ordered l
+
+  -- what a fine verdict says
+  pub links-fine : linksFault b ≡ Fine → (inOrder b linksKinds ≡ true) × (cablingFault b ≡ Fine)
+  links-fine h =
+      bcase (inOrder b linksKinds) (λ t. (t, sym (links-ordered t) ∙ h)) (λ t. absurd (fault-not-fine (sym (links-broken t) ∙ h)))

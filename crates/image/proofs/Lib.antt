@@ -1,6 +1,7 @@
 pub mod Faults
-pub mod Assembled
+pub mod Agreeing
+pub mod Pieces
 pub mod Reading
-pub mod Tight
-pub mod Images
 pub mod Meaning
+pub mod Images
+pub mod Calls

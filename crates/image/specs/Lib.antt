@@ -1,3 +1,4 @@
 pub mod Image
 pub mod Calls
 pub mod Verdicts
+pub mod Laying

@@ -1,32 +1,29 @@
 -- What each verdict on an image says: 01's table of refusals, row by row, in the order that stands below it.
 use mathlib.Core.Path.{_≡_}
-use mathlib.Core.Bool.{true, false}
-use mathlib.Core.List.{List, [], _∷_}
+use mathlib.Core.List.{List}
 use mathlib.Core.Logic.{_⊎_}
 use Prim.Native.Nat.{ℕ, _<_}
+use lib.ListN.{drop}
 use Rattle.nodes.specs.Limits.{maxNodes}
 use Rattle.refusal.specs.declared.Refusal.{Refusal}
 use Rattle.refusal.specs.declared.Refusal.the-variants.{Contents, Count, Shape, Differs}
 use Rattle.refusal.specs.declared.Verdict.{Verdict}
 use Rattle.refusal.specs.declared.Verdict.the-variants.{Fine, Fault}
 use Rattle.cabling.specs.Verdicts.{Counted, Means}
-use Rattle.format.specs.Contents.{linksKinds, fullKinds, nodesIn, zeroIn, pairsIn}
+use Rattle.format.specs.Contents.{linksKinds, fullKinds, nodesIn, zeroIn}
 use Rattle.format.specs.Order.{InOrder}
 use Rattle.format.specs.Bytes.{bodiesFrom}
-use Rattle.image.specs.Image.{labelsBody, rowsBody}
+use Rattle.image.specs.Image.{bodiesOf, cablingIn}
 
--- 2 to 7, of what kind 1 holds: "N not in 2 to 64"; "second byte of kind 1 not zero"; else what its N and pairs are given
+-- 2 to 7, of what kind 1 holds: "N not in 2 to 64"; "second byte of kind 1 not zero"; else what its cabling is given
 pub data KindOne (b : List ℕ) : Verdict → Type 0 where
   count : (nodesIn b < 2) ⊎ (maxNodes < nodesIn b) → KindOne b (Fault Count)
   second : Counted (nodesIn b) → (zeroIn b ≡ 0 → ⊥) → KindOne b (Fault Shape)
-  cabling : {v : Verdict} → zeroIn b ≡ 0 → Means (nodesIn b) (pairsIn b) v → KindOne b v
+  cabling : {v : Verdict} → zeroIn b ≡ 0 → Means (cablingIn b) v → KindOne b v
 
 -- 8: kinds 2, 3 and 4 are "what the rules give"
 abbrev pub ByTheRules : List ℕ → Type 0
-ByTheRules b =
-    let n : ℕ = nodesIn b in
-    let pairs : List ℕ = pairsIn b in
-    bodiesFrom b 1 3 ≡ labelsBody n pairs ∷ rowsBody n pairs true ∷ rowsBody n pairs false ∷ []
+ByTheRules b = bodiesFrom b 1 3 ≡ drop 1 (bodiesOf (cablingIn b))
 
 -- where a call takes the links image alone: 1, "contents break the rules" or "kinds not allowed for this call"
 pub data OfLinks (b : List ℕ) : Verdict → Type 0 where

@@ -1,22 +1,29 @@
-// The calls on images: read, write, build. Each checks in 01's order, and writes its result whole or not at all.
+// The calls on images: read, write, build, and open for the calls above. Each checks in 01's order, and writes its result whole or not at all.
 ghost use mathlib.Core.Path.{_≡_};
-ghost use mathlib.Core.Bool.{true, false};
-ghost use Prim.Native.Nat.{_≤_};
-ghost use lib.ListN.{length};
-ghost use Rattle.nodes.specs.Limits.{maxNodes};
+ghost use lib.ListN.{drop};
 ghost use Rattle.refusal.specs.declared.Verdict.{Verdict};
-ghost use Rattle.format.specs.Contents.{nodesIn, pairsIn};
+ghost use Rattle.cabling.specs.Cabling.{cabled, Good};
 ghost use Rattle.cabling.specs.Faults.{faultOf};
-ghost use Rattle.grown.specs.Grown.{appended, content};
-ghost use Rattle.grown.specs.Holds.{Holds, Held};
+ghost use Rattle.fabric.specs.Fabric.{fabricOf, bareFabric, madeBy};
+ghost use Rattle.format.specs.Contents.{fullKinds};
+ghost use Rattle.format.specs.Bytes.{sameBodies};
 ghost use Rattle.written.specs.Written.{Writes};
-ghost use Rattle.image.specs.Image.{entryBytes, fullFront, imageOf};
-ghost use Rattle.image.specs.Calls.{cablingFault, tablesFault, linksFault, imageFault, Reads};
-use grown::Grown;
+ghost use Rattle.image.specs.Image.{bodiesOf, imageOf, kindsOf, cablingIn};
+ghost use Rattle.image.specs.Calls.{andThen, frontFault, cablingFault, tablesFault, linksFault, imageFault, Reads};
+
+mod laying; // laying.rt: the bytes of an image, laid in a lent buffer
+
+use fabric::Fabric;
+use fabric::Made;
 use nodes::MAX_NODES;
 use refusal::Refusal;
 use refusal::Verdict;
 use written::Written;
+
+// The kinds of a links image and of a full one.
+const LINKS: usize = 1;
+
+const FULL: usize = 4;
 
 // What `read` answers: the numbers of nodes and links and which image it was, or the refusal.
 pub enum Outcome {
@@ -28,72 +35,9 @@ pub enum Outcome {
     NotRead(Refusal),
 }
 
-// A contents entry: kind, zero, offset and length, low byte first.
-fn entry(g: Grown, kind: u8, offset: usize, size: usize) -> Grown
-    ensures { λ r. ⌜ r ≡ appended g (entryBytes kind offset size) ⌝ }
-{
-    let bytes = [
-        kind,
-        0,
-        (offset % 256) as u8,
-        (offset / 256 % 256) as u8,
-        (size % 256) as u8,
-        (size / 256 % 256) as u8,
-    ];
-    grown::append(g, &bytes)
-}
-
-// The links image of a cabling.
-fn links_bytes(n: usize, pairs: &[u8]) -> Grown
-    requires { ⌜ (n ≤ maxNodes) × (length (now pairs) ≤ 1024) ⌝ }
-    ensures { λ r. ⌜ Holds r (imageOf false n (now (pairs .entry))) 1034 ⌝ }
-{
-    let front = [1u8, 1];
-    let node_count = [n as u8, 0];
-    let a = grown::append(grown::empty(), &front);
-    let b = entry(a, 1, 8, 2 + pairs.len());
-    let c = grown::append(b, &node_count);
-    grown::append(c, pairs)
-}
-
-// The contents of a full image, and its kind 1.
-fn full_front(n: usize, pairs: &[u8]) -> Grown
-    requires { ⌜ (n ≤ maxNodes) × (length (now pairs) ≤ 1024) ⌝ }
-    ensures { λ r. ⌜ Holds r (fullFront n (now (pairs .entry))) 1052 ⌝ }
-{
-    let front = [1u8, 4];
-    let node_count = [n as u8, 0];
-    let size = 2 + pairs.len();
-    let rows = n * n;
-    let a = grown::append(grown::empty(), &front);
-    let b = entry(a, 1, 26, size);
-    let c = entry(b, 2, 26 + size, n);
-    let d = entry(c, 3, 26 + size + n, rows);
-    let e = entry(d, 4, 26 + size + n + rows, rows);
-    let f = grown::append(e, &node_count);
-    grown::append(f, pairs)
-}
-
-// The full image of a cabling.
-fn full_bytes(n: usize, pairs: &[u8]) -> Grown
-    requires { ⌜ (n ≤ maxNodes) × (length (now pairs) ≤ 1024) ⌝ }
-    ensures { λ r. ⌜ Holds r (imageOf true n (now (pairs .entry))) 9308 ⌝ }
-{
-    let front = full_front(n, pairs);
-    let t = network::table_of(pairs);
-    let labels = labels::labels(t, n);
-    let tables = rows::tables_of(&t, &labels, n);
-    let free = tables.free;
-    let falling = tables.falling;
-    let size = n * n;
-    let a = grown::append(front, &labels[..n]);
-    let b = grown::append(a, &free[..size]);
-    grown::append(b, &falling[..size])
-}
-
-// 2 to 7, of an image whose contents are in order.
-fn cabling_fault(image: &[u8]) -> Verdict
-    ensures { λ r. ⌜ r ≡ cablingFault (now (image .entry)) ⌝ }
+// 2 and 3, of the first two bytes of kind 1.
+fn front_fault(image: &[u8]) -> Verdict
+    ensures { λ r. ⌜ r ≡ frontFault (now (image .entry)) ⌝ }
 {
     let n = format::nodes_in(image);
     if n < 2 {
@@ -105,94 +49,136 @@ fn cabling_fault(image: &[u8]) -> Verdict
     if format::zero_in(image) != 0 {
         return Verdict::Fault(Refusal::Shape);
     }
-    cabling::fault(n, format::pairs_in(image))
+    Verdict::Fine
 }
 
-// 8, of a full image whose contents and cabling are in order.
-fn tables_fault(image: &[u8]) -> Verdict
-    requires { ⌜ cablingFault (now image) ≡ Verdict.Fine ⌝ }
-    ensures { λ r. ⌜ r ≡ tablesFault (now (image .entry)) ⌝ }
+// 2 to 7, of an image whose contents are in order.
+fn cabling_fault(image: &[u8]) -> Verdict
+    ensures { λ r. ⌜ r ≡ cablingFault (now (image .entry)) ⌝ }
 {
-    let g = full_bytes(format::nodes_in(image), format::pairs_in(image));
-    let given = g.bytes;
-    let size = g.len;
-    if written::same_bytes(image, &given[..size]) {
-        Verdict::Fine
-    } else {
-        Verdict::Fault(Refusal::Differs)
+    let first = front_fault(image);
+    match first {
+        Verdict::Fault(r) => Verdict::Fault(r),
+        Verdict::Fine => cabling::fault(format::nodes_in(image), format::pairs_in(image)),
     }
 }
 
-// 1 to 7, of a links image.
-fn links_fault(image: &[u8]) -> Verdict
-    ensures { λ r. ⌜ r ≡ linksFault (now (image .entry)) ⌝ }
+// A refusal, and no fabric.
+fn refused(r: Refusal) -> Made
+    ensures { λ m. ⌜ m ≡ record { verdict = Verdict.Fault r; fabric = bareFabric } ⌝ }
 {
-    if format::in_order(image, 1) {
-        cabling_fault(image)
-    } else {
-        Verdict::Fault(Refusal::Contents)
+    Made {
+        verdict: Verdict::Fault(r),
+        fabric: fabric::bare(),
     }
 }
 
-// 1 to 8, of either image.
+// 2 to 7, of an image whose contents are in order, or its fabric.
+fn make_in(image: &[u8]) -> Made
+    ensures { λ r. ⌜ r ≡ madeBy (cablingFault (now (image .entry))) (cablingIn (now (image .entry))) ⌝ }
+{
+    let first = front_fault(image);
+    match first {
+        Verdict::Fault(r) => refused(r),
+        Verdict::Fine => fabric::make(format::nodes_in(image), format::pairs_in(image)),
+    }
+}
+
+// Are kinds 2, 3 and 4 these labels and rows, those of the image's cabling?
+fn agrees<'a>(image: &[u8], n: usize, labels: &'a [u8], free: &'a [u8], falling: &'a [u8]) -> bool
+    requires { ⌜ Good (cablingIn (now image)) × (record { nodes = n; labels = now labels; free = now free; falling = now falling } ≡ fabricOf (cablingIn (now image))) ⌝ }
+    ensures { λ r. ⌜ r ≡ sameBodies (now (image .entry)) 1 (drop 1 (bodiesOf (cablingIn (now (image .entry))))) ⌝ }
+{
+    let size = n * n;
+    if !written::same_bytes(format::body_at(image, 1), written::front(labels, n)) {
+        return false;
+    }
+    if !written::same_bytes(format::body_at(image, 2), written::front(free, size)) {
+        return false;
+    }
+    written::same_bytes(format::body_at(image, 3), written::front(falling, size))
+}
+
+// 2 to 8, of an image with the contents of a full one, or its fabric.
+fn open_full(image: &[u8]) -> Made
+    ensures { λ r. ⌜ r ≡ madeBy (andThen (cablingFault (now (image .entry))) (tablesFault (now (image .entry)))) (cablingIn (now (image .entry))) ⌝ }
+{
+    let made = make_in(image);
+    let verdict = made.verdict;
+    if let Verdict::Fault(r) = verdict {
+        return refused(r);
+    }
+    let n = made.fabric.nodes;
+    if !agrees(
+        image,
+        n,
+        &made.fabric.labels,
+        &made.fabric.free,
+        &made.fabric.falling,
+    ) {
+        return refused(Refusal::Differs);
+    }
+    made
+}
+
+// The verdict 1 to 8 on either image, and its fabric: labels and tables are made once.
+pub fn open(image: &[u8]) -> Made
+    ensures { λ r. ⌜ r ≡ madeBy (imageFault (now (image .entry))) (cablingIn (now (image .entry))) ⌝ }
+{
+    if contents::in_order(image, FULL) {
+        return open_full(image);
+    }
+    if contents::in_order(image, LINKS) {
+        return make_in(image);
+    }
+    refused(Refusal::Contents)
+}
+
+// 1 to 8, of either image. A links image needs no fabric for that.
 pub fn verdict(image: &[u8]) -> Verdict
     ensures { λ r. ⌜ r ≡ imageFault (now (image .entry)) ⌝ }
 {
-    if !format::in_order(image, 4) {
-        return links_fault(image);
+    if contents::in_order(image, LINKS) {
+        return cabling_fault(image);
     }
-    let first = cabling_fault(image);
-    match first {
-        Verdict::Fault(r) => Verdict::Fault(r),
-        Verdict::Fine => tables_fault(image),
-    }
-}
-
-// Either image of a cabling.
-fn bytes_of(n: usize, pairs: &[u8], full: bool) -> Grown
-    requires { ⌜ (n ≤ maxNodes) × (length (now pairs) ≤ 1024) ⌝ }
-    ensures { λ r. ⌜ Holds r (imageOf full n (now (pairs .entry))) 9308 ⌝ }
-{
-    if full {
-        full_bytes(n, pairs)
-    } else {
-        links_bytes(n, pairs)
-    }
-}
-
-// What is held, at the front of the buffer.
-fn placed(g: Grown, buffer: &mut [u8]) -> Written
-    requires { ⌜ Held g ⌝ }
-    ensures { λ r. ⌜ Writes Verdict.Fine (content g) (now (buffer .entry)) r (now (buffer .exit)) ⌝ }
-{
-    let bytes = g.bytes;
-    let len = g.len;
-    written::place(&bytes[..len], buffer)
+    let opened = open(image);
+    opened.verdict
 }
 
 // Writes the image of a cabling, full or links only, under the checks 2 to 7 and 9.
 pub fn write(n: usize, pairs: &[u8], full: bool, buffer: &mut [u8]) -> Written
-    ensures { λ r. ⌜ Writes (faultOf n (now (pairs .entry))) (imageOf full n (now (pairs .entry))) (now (buffer .entry)) r (now (buffer .exit)) ⌝ }
+    ensures { λ r. ⌜ Writes (faultOf (cabled n (now (pairs .entry)))) (imageOf (kindsOf full) (cabled n (now (pairs .entry)))) (now (buffer .entry)) r (now (buffer .exit)) ⌝ }
 {
+    if full {
+        let made = fabric::make(n, pairs);
+        let verdict = made.verdict;
+        if let Verdict::Fault(r) = verdict {
+            return Written::NotWritten(r);
+        }
+        let f = made.fabric;
+        return laying::full(f, pairs, buffer);
+    }
     let checked = cabling::fault(n, pairs);
     if let Verdict::Fault(r) = checked {
         return Written::NotWritten(r);
     }
-    placed(bytes_of(n, pairs, full), buffer)
+    laying::links(n, pairs, buffer)
 }
 
 // Writes the full image of a links image, under the checks 1 to 7 and 9.
 pub fn build(image: &[u8], buffer: &mut [u8]) -> Written
-    ensures { λ r. ⌜ Writes (linksFault (now (image .entry))) (imageOf true (nodesIn (now (image .entry))) (pairsIn (now (image .entry)))) (now (buffer .entry)) r (now (buffer .exit)) ⌝ }
+    ensures { λ r. ⌜ Writes (linksFault (now (image .entry))) (imageOf fullKinds (cablingIn (now (image .entry)))) (now (buffer .entry)) r (now (buffer .exit)) ⌝ }
 {
-    let checked = links_fault(image);
-    if let Verdict::Fault(r) = checked {
+    if !contents::in_order(image, LINKS) {
+        return Written::NotWritten(Refusal::Contents);
+    }
+    let made = make_in(image);
+    let verdict = made.verdict;
+    if let Verdict::Fault(r) = verdict {
         return Written::NotWritten(r);
     }
-    placed(
-        full_bytes(format::nodes_in(image), format::pairs_in(image)),
-        buffer,
-    )
+    let f = made.fabric;
+    laying::full(f, format::pairs_in(image), buffer)
 }
 
 // Answers the numbers of nodes and links and which image it is, and writes the pairs, under the checks 1 to 9.
@@ -209,7 +195,7 @@ pub fn read(image: &[u8], buffer: &mut [u8]) -> Outcome
         Written::Bytes(m) => Outcome::Read {
             nodes: format::nodes_in(image),
             links: m / 2,
-            full: format::in_order(image, 4),
+            full: contents::in_order(image, FULL),
         },
     }
 }

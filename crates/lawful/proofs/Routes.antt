@@ -2,19 +2,21 @@
 use mathlib.Core.Path.{_≡_, refl, sym, _∙_, ap, ap₂}
 use mathlib.Core.Bool.{Bool, true, false}
 use mathlib.Core.List.{List, [], _∷_}
-use mathlib.Core.Logic.{_↔_}
+use mathlib.Core.Logic.{_↔_, _⊎_, inl, inr}
 use Prim.Native.Nat.{ℕ, zero, suc, _+_, _≤_, _<_, zero-le}
 use native.Mathlib.Nat.{le-of-suc-le-suc, le-of-lt}
 use native.Mathlib.Omega.{arith}
 use lib.ListN.{length, getD}
 use Rattle.finite.specs.Truth.{same}
-use Rattle.finite.proofs.Truth.{bcase, same-eq, same-ne, ne-same, same-refl}
+use Rattle.finite.specs.Sets.{has}
+use Rattle.finite.proofs.Truth.{no-tf, bcase, same-eq, same-ne, ne-same, same-refl}
 use Rattle.graph.specs.Network.{Network}
 use Rattle.lawful.specs.Turn.{Distinct, Climbing}
 use Rattle.lawful.specs.Path.{LawfulTo, Shortest}
-use Rattle.lawful.specs.Entry.{firstLayer, entry, after, follow, routeOf}
+use Rattle.lawful.specs.Entry.{layer, firstLayer, entry, after, follow, routeOf}
 use Rattle.lawful.proofs.Run.{Hop, Run, done, hop, Fewest, hop-after}
-use Rattle.lawful.proofs.Paths.{WayTo, path-inside, way-run, way-none, hop-shortest}
+use Rattle.lawful.proofs.Layers.{side, layer-run, run-layer}
+use Rattle.lawful.proofs.Paths.{WayTo, path-inside, run-way, way-run, way-none, hop-shortest}
 use Rattle.lawful.proofs.Climb.{climbing-way}
 use Rattle.lawful.proofs.Entries.{entry-starts, first-bound}
 
@@ -180,6 +182,18 @@ module _ (n : ℕ) (edge : ℕ → ℕ → Bool) (label : ℕ → ℕ) (net : Ne
   pub route-inside : (v t : ℕ) (l : List ℕ) → t < n → LawfulTo edge label v t l
       → (i : ℕ) → i < length (routeOf n edge label v t) → getD (routeOf n edge label v t) i 0 < n
   route-inside v t l low w = path-inside edge (net .inside) v (routeOf n edge label v t) (route-shortest v t l low w .shortest .is .path)
+
+-- some way leads from v to t, or none does: the layers decide it
+pub way-or-none : (n : ℕ) (edge : ℕ → ℕ → Bool) (label : ℕ → ℕ) → Network n edge → Distinct edge label → (c : Bool) (v t : ℕ) → v < n → t < n
+    → ((l : List ℕ) × WayTo edge label c v t l) ⊎ ((l : List ℕ) → WayTo edge label c v t l → ⊥)
+way-or-none n edge label net distinct c v t a b =
+    bcase (has (side c (layer n edge label t (n + n))) v)
+    (λ h. let w = run-way edge label distinct (layer-run n edge label t (n + n) c v h .run) in inl (w .list, w .way))
+    (λ h.
+    inr (λ l w.
+    let r = way-run edge label distinct c v t l w in
+    no-tf (run-layer n edge label t (net .inside) {c = c} (n + n) (hops-run n edge label t (net .inside) b r)
+    (le-of-lt (hops-bound n edge label t (net .inside) b r)) a) h))
 
 -- in a climbing labelling every pair of nodes has such a route
 pub climbing-route : (n : ℕ) (edge : ℕ → ℕ → Bool) (label : ℕ → ℕ) → Network n edge → Climbing n edge label → (v t : ℕ) → v < n → t < n

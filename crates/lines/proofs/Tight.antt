@@ -1,19 +1,25 @@
--- The promises of this crate's calls determine their answers. Of the line of a refusal that is the bytes it holds, which are all that is printed.
-use mathlib.Core.Path.{_≡_, sym, _∙_}
-use mathlib.Core.List.{List, [], _∷_}
+-- The promises of this crate's calls determine their answers and what they leave.
+use mathlib.Core.Path.{_≡_}
+use mathlib.Core.List.{List}
 use Prim.Native.Nat.{ℕ}
+use Rattle.laid.specs.Laid.{Page, page}
+use Rattle.laid.proofs.Tight.{page-determined}
 use Rattle.refusal.specs.declared.Refusal.{Refusal}
-use Rattle.grown.specs.declared.Grown.{Grown}
-use Rattle.grown.specs.Grown.{content, appended}
-use Rattle.grown.specs.Holds.{Holds}
-use Rattle.text.specs.Text.{decimalOf}
-use Rattle.lines.specs.Lines.{withFields, refusalLine}
+use Rattle.written.specs.declared.Written.{Written}
+use Rattle.written.specs.Written.{Writes, roomFor}
+use Rattle.written.proofs.Tight.{writes-unique}
+use Rattle.lines.specs.Lines.{withField, withFields, withLine, refusalLine, longestRefusal}
 
-pub field-determined : (g : Grown) (n : ℕ) (r s : Grown) → r ≡ appended (appended g (32 ∷ [])) (decimalOf n) → s ≡ appended (appended g (32 ∷ [])) (decimalOf n) → r ≡ s
-field-determined g n r s p q = p ∙ sym q
+module _ (p : Page) {b c : List ℕ} {r s : ℕ} where
+  pub field-determined : (n : ℕ) → page b r ≡ withField p n → page c s ≡ withField p n → (b ≡ c) × (r ≡ s)
+  field-determined n = page-determined
 
-pub byte-fields-determined : (g : Grown) (bytes : List ℕ) (r s : Grown) → r ≡ withFields g bytes → s ≡ withFields g bytes → r ≡ s
-byte-fields-determined g bytes r s p q = p ∙ sym q
+  pub fields-determined : (ns : List ℕ) → page b r ≡ withFields p ns → page c s ≡ withFields p ns → (b ≡ c) × (r ≡ s)
+  fields-determined ns = page-determined
 
-pub refusal-line-determined : (r : Refusal) (g h : Grown) → Holds g (refusalLine r) 52 → Holds h (refusalLine r) 52 → (g .len ≡ h .len) × (content g ≡ content h)
-refusal-line-determined r g h p q = (p .len-is ∙ sym (q .len-is), p .content-is ∙ sym (q .content-is))
+  pub line-determined : (first ns : List ℕ) → page b r ≡ withLine p first ns → page c s ≡ withLine p first ns → (b ≡ c) × (r ≡ s)
+  line-determined first ns = page-determined
+
+pub refusal-line-determined : (r : Refusal) {before l m : List ℕ} {a b : Written} → Writes (roomFor longestRefusal before) (refusalLine r) before a l
+    → Writes (roomFor longestRefusal before) (refusalLine r) before b m → (a ≡ b) × (l ≡ m)
+refusal-line-determined r = writes-unique

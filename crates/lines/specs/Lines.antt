@@ -1,8 +1,7 @@
 -- 01, "Programs": "Fields of a printed line stand one space apart; a line feed closes it."
 use mathlib.Core.List.{List, [], _∷_, _++_}
 use Prim.Native.Nat.{ℕ}
-use Rattle.grown.specs.declared.Grown.{Grown}
-use Rattle.grown.specs.Grown.{appended}
+use Rattle.laid.specs.Laid.{Page, behind}
 use Rattle.refusal.specs.declared.Refusal.{Refusal}
 use Rattle.refusal.specs.declared.Verdict.{Verdict}
 use Rattle.refusal.specs.declared.Verdict.the-variants.{Fine, Fault}
@@ -22,13 +21,16 @@ fieldsOf (n ∷ ns) = fieldOf n ++ fieldsOf ns
 abbrev pub lineOf : List ℕ → List ℕ → List ℕ
 lineOf first numbers = (first ++ fieldsOf numbers) ++ (10 ∷ [])
 
--- what is held with numbers as further fields behind it, one by one, and with a line behind it; a piece that finds no room is left out
-unfoldable pub withFields : Grown → List ℕ → Grown
-withFields g [] = g
-withFields g (n ∷ ns) = withFields (appended (appended g (32 ∷ [])) (decimalOf n)) ns
+-- what is laid with a field, with fields one by one and with a line behind it; a piece that finds no room is left out
+abbrev pub withField : Page → ℕ → Page
+withField p n = behind (behind p (32 ∷ [])) (decimalOf n)
 
-unfoldable pub withLine : Grown → List ℕ → List ℕ → Grown
-withLine g first numbers = appended (withFields (appended g first) numbers) (10 ∷ [])
+unfoldable pub withFields : Page → List ℕ → Page
+withFields p [] = p
+withFields p (n ∷ ns) = withFields (withField p n) ns
+
+unfoldable pub withLine : Page → List ℕ → List ℕ → Page
+withLine p first numbers = behind (withFields (behind p first) numbers) (10 ∷ [])
 
 -- "refused"
 abbrev pub refusedWord : List ℕ
@@ -37,6 +39,10 @@ refusedWord = 114 ∷ 101 ∷ 102 ∷ 117 ∷ 115 ∷ 101 ∷ 100 ∷ []
 -- "`refused`, number, place"
 unfoldable pub refusalLine : Refusal → List ℕ
 refusalLine r = lineOf refusedWord (numberOf r ∷ placeOf r ∷ [])
+
+-- no longer than this: the word, two numbers of at most 21 digits, and the line feed
+abbrev pub longestRefusal : ℕ
+longestRefusal = 52
 
 -- "All print only `refused`, number, place on a refusal.": these bytes, or the line of the refusal
 unfoldable pub orRefused : Verdict → List ℕ → List ℕ

@@ -1,39 +1,62 @@
 // Lines that programs print: a word or a number, further numbers one space apart, a line feed.
 ghost use mathlib.Core.Path.{_≡_};
-ghost use mathlib.Core.List.{[], _∷_};
-ghost use Rattle.grown.specs.Grown.{appended};
-ghost use Rattle.grown.specs.Holds.{Holds};
-ghost use Rattle.text.specs.Text.{decimalOf};
-ghost use Rattle.lines.specs.Lines.{withFields, refusalLine};
-use grown::Grown;
+ghost use Rattle.laid.specs.Laid.{page};
+ghost use Rattle.written.specs.Written.{Writes, roomFor};
+ghost use Rattle.lines.specs.Lines.{withField, withFields, withLine, refusalLine, longestRefusal};
 use refusal::Refusal;
+use written::Written;
+
+// How long the line of a refusal is at the most.
+pub const LONGEST_REFUSAL: usize = 52;
 
 // A further field: a space, and the number.
-pub fn field(g: Grown, n: usize) -> Grown
-    ensures { λ r. ⌜ r ≡ appended (appended g (32 ∷ [])) (decimalOf n) ⌝ }
+pub fn field(buffer: &mut [u8], at: usize, n: usize) -> usize
+    ensures { λ r. ⌜ page (now (buffer .exit)) r ≡ withField (page (now (buffer .entry)) at) n ⌝ }
 {
-    text::number(grown::byte(g, 32), n)
+    let next = laid::byte(buffer, at, 32);
+    text::number(buffer, next, n)
+}
+
+// A further field for each number.
+pub fn fields(buffer: &mut [u8], at: usize, numbers: &[usize]) -> usize
+    ensures { λ r. ⌜ page (now (buffer .exit)) r ≡ withFields (page (now (buffer .entry)) at) (now (numbers .entry)) ⌝ }
+{
+    let mut end = at;
+    for i in 0..numbers.len() {
+        end = field(buffer, end, numbers[i]);
+    }
+    end
 }
 
 // A further field for each byte.
-pub fn byte_fields(g: Grown, bytes: &[u8]) -> Grown
-    ensures { λ r. ⌜ r ≡ withFields g (now (bytes .entry)) ⌝ }
+pub fn byte_fields(buffer: &mut [u8], at: usize, bytes: &[u8]) -> usize
+    ensures { λ r. ⌜ page (now (buffer .exit)) r ≡ withFields (page (now (buffer .entry)) at) (now (bytes .entry)) ⌝ }
 {
-    let mut all = g;
+    let mut end = at;
     for i in 0..bytes.len() {
-        let more = field(all, bytes[i] as usize);
-        all = more;
+        end = field(buffer, end, bytes[i] as usize);
     }
-    all
+    end
 }
 
-// The line that a refusal prints.
-pub fn refusal_line(r: Refusal) -> Grown
-    ensures { λ g. ⌜ Holds g (refusalLine r) 52 ⌝ }
+// A line: what it begins with, a field for each number, and a line feed.
+pub fn line(buffer: &mut [u8], at: usize, first: &[u8], numbers: &[usize]) -> usize
+    ensures { λ r. ⌜ page (now (buffer .exit)) r ≡ withLine (page (now (buffer .entry)) at) (now (first .entry)) (now (numbers .entry)) ⌝ }
 {
-    let word = b"refused";
-    let a = grown::append(grown::empty(), word);
-    let b = field(a, refusal::number(r));
-    let c = field(b, refusal::place(r));
-    grown::byte(c, 10)
+    let word = laid::put(buffer, at, first);
+    let end = fields(buffer, word, numbers);
+    laid::byte(buffer, end, 10)
+}
+
+// The line that a refusal prints, or 9 and nothing written where the longest such line finds no room.
+pub fn refusal_line(r: Refusal, buffer: &mut [u8]) -> Written
+    ensures { λ answer. ⌜ Writes (roomFor longestRefusal (now (buffer .entry))) (refusalLine r) (now (buffer .entry)) answer (now (buffer .exit)) ⌝ }
+{
+    if buffer.len() < LONGEST_REFUSAL {
+        return Written::NotWritten(Refusal::Short);
+    }
+    let number = refusal::number(r);
+    let place = refusal::place(r);
+    let numbers = [number, place];
+    Written::Bytes(line(buffer, 0, b"refused", &numbers))
 }

@@ -18,7 +18,7 @@ use Rattle.machine.specs.Sizes.{maxMessages, maxPairs}
 use Rattle.machine.specs.declared.Record.{Record}
 use Rattle.machine.specs.Step.{head, target, isFalling, isDelivered, nextNode, nextChannel, holder, classAfter, counted, released, moved, arrived}
 use Rattle.machine.specs.Fresh.{sourceIn}
-use Rattle.machine.specs.Runs.{labelIn, Fabric, Listed, messagesIn, routeIn, itineraryIn}
+use Rattle.machine.specs.Runs.{labelIn, Tabled, Listed, messagesIn, routeIn, itineraryIn}
 use Rattle.machine.specs.Tells.{Says}
 use Rattle.machine.proofs.Moves.{class-fall, class-free}
 use Rattle.machine.proofs.Changes.{released-here, released-other, moved-head, moved-heads, moved-class, moved-classes, moved-holder, moved-holders, arrived-mark, arrived-marks, arrived-holders}
@@ -73,28 +73,28 @@ hop-class edge labels r m e p (fall h) =
     let b : labelIn (r .labels) (nextNode r m) ≡ labelIn labels (nextNode r m) = ap (λ (l : List ℕ). labelIn l (nextNode r m)) e in
     ap (λ (x : ℕ). non (non (same x 0))) (class-fall r m (omega arith)) ∙ false-non (true-non (ne-same (λ q. omega arith)))
 
-module _ {n : ℕ} {edge : ℕ → ℕ → Bool} {labels free falling list : List ℕ} (fabric : Fabric n edge labels free falling) (listed : Listed n list)
+module _ {n : ℕ} {edge : ℕ → ℕ → Bool} {labels free falling list : List ℕ} (tabled : Tabled n edge labels free falling) (listed : Listed n list)
     {r : Record} {s : Progress} (state : State n edge labels free falling list r s) (m : ℕ) (low : m < messagesIn list) (fresh : s .done m ≡ false) where
   abbrev k : ℕ
   k = messagesIn list
 
   abbrev itinerary : ℕ → List ℕ
-  itinerary = itineraryIn edge labels list
+  itinerary = itineraryIn n edge labels list
 
   abbrev OnIt : ℕ → ℕ → Bool → ℕ → Type 0
   OnIt = OnRoute n edge labels list
 
   -- message m has a place in every array of 256
   placed : {size : ℕ} → size ≡ maxMessages → m < size
-  placed e = let b = few-messages fabric listed in omega arith
+  placed e = let b = few-messages tabled listed in omega arith
 
   -- the count is not full
   count-one : counted (r .moves) ≡ suc (made k s)
   count-one =
       let c = state .says .count in
       let b = made-le k itinerary s (state .says .lawful) in
-      let w = all-moves-whole fabric listed in
-      let l = all-moves-small fabric listed in
+      let w = all-moves-whole tabled listed in
+      let l = all-moves-small tabled listed in
       omega arith
 
   -- a fact of every message, from that of message m and those of the others
@@ -110,11 +110,11 @@ module _ {n : ℕ} {edge : ℕ → ℕ → Bool} {labels free falling list : Lis
     chosen : (c : ℕ) → nextChannel r m ≡ c → holder (moved r m) c ≡ suc m
     chosen c e =
         ap (holder (moved r m)) (sym e)
-        ∙ moved-holder r m (let a = next-inside fabric listed state m low d in let b = state .kept .holders-size in omega arith)
+        ∙ moved-holder r m (let a = next-inside tabled listed state m low d in let b = state .kept .holders-size in omega arith)
 
     held-here : (c : ℕ) → same (holder (moved r m) c) (suc m) ≡ holds itinerary ahead m c
     held-here c =
-        let w = next-wanted fabric listed state m low d in
+        let w = next-wanted tabled listed state m low d in
         bcase (same (nextChannel r m) c)
         (λ t.
         let e = same-eq _ _ t in
@@ -135,10 +135,10 @@ module _ {n : ℕ} {edge : ℕ → ℕ → Bool} {labels free falling list : Lis
         ne-same (λ x. e (omega arith)) ∙ sym (ne-same (λ x. omega arith)) ∙ old)
         (λ t. ap (λ (h : ℕ). same h (suc b)) (moved-holders r m c (same-ne _ _ t)) ∙ old)
 
-    moved-at : (c : ℕ) → c < k → head (moved r m) c ≡ getD (sourceIn list c ∷ routeIn edge labels list c) (ahead .taken c) 0
+    moved-at : (c : ℕ) → c < k → head (moved r m) c ≡ getD (sourceIn list c ∷ routeIn n edge labels list c) (ahead .taken c) 0
     moved-at =
-        by-message (λ c. c < k → head (moved r m) c ≡ getD (sourceIn list c ∷ routeIn edge labels list c) (ahead .taken c) 0)
-        (λ l. rw (taken-here s m) (moved-head r m (placed (state .kept .heads-size)) ∙ next-way fabric listed state m low d .at))
+        by-message (λ c. c < k → head (moved r m) c ≡ getD (sourceIn list c ∷ routeIn n edge labels list c) (ahead .taken c) 0)
+        (λ l. rw (taken-here s m) (moved-head r m (placed (state .kept .heads-size)) ∙ next-way tabled listed state m low d .at))
         (λ c e l. rw (taken-there s m c e) (moved-heads r m c e ∙ state .says .at c l))
 
     moved-done : (c : ℕ) → c < k → isDelivered (moved r m) c ≡ ahead .done c
@@ -149,9 +149,9 @@ module _ {n : ℕ} {edge : ℕ → ℕ → Bool} {labels free falling list : Lis
     unfolding moved
     moved-count = count-one ∙ sym (taking-made s m k low)
 
-    moved-says : Says k edge labels list (moved r m) ahead
+    moved-says : Says n edge labels list (moved r m) ahead
     moved-says = record {
-      lawful = taking-lawful itinerary s m k (state .says .lawful) fresh (more-to-take fabric listed state m low d);
+      lawful = taking-lawful itinerary s m k (state .says .lawful) fresh (more-to-take tabled listed state m low d);
       at = moved-at;
       done = moved-done;
       held = λ c b. by-message (λ b. b < k → same (holder (moved r m) c) (suc b) ≡ holds itinerary ahead b c) (λ l. held-here c) (λ b e. held-there b c e) b;
@@ -164,14 +164,14 @@ module _ {n : ℕ} {edge : ℕ → ℕ → Bool} {labels free falling list : Lis
     moved-class-is : non (isFalling (moved r m) m) ≡ after edge (labelIn labels) (non (isFalling r m)) (head r m) (nextNode r m)
     moved-class-is =
         ap non (moved-class r m (placed (state .kept .classes-size)))
-        ∙ hop-class edge labels r m (state .kept .labels-are) refl (next-hop fabric listed state m low d)
+        ∙ hop-class edge labels r m (state .kept .labels-are) refl (next-hop tabled listed state m low d)
 
     moved-way : (c : ℕ) → c < k → OnIt c (ahead .taken c) (non (isFalling (moved r m) c)) (head (moved r m) c)
     moved-way =
         by-message (λ c. c < k → OnIt c (ahead .taken c) (non (isFalling (moved r m) c)) (head (moved r m) c))
         (λ l.
         rw (taken-here s m, moved-class-is, moved-head r m (placed (state .kept .heads-size)))
-        (next-way fabric listed state m low d))
+        (next-way tabled listed state m low d))
         (λ c e l. rw (taken-there s m c e, moved-classes r m c e, moved-heads r m c e) (state .way c l))
 
     pub moved-state : State n edge labels free falling list (moved r m) (taking s m)
@@ -179,7 +179,7 @@ module _ {n : ℕ} {edge : ℕ → ℕ → Bool} {labels free falling list : Lis
 
   -- ---- it is delivered
 
-  module _ (last : s .taken m ≡ length (itineraryIn edge labels list m)) where
+  module _ (last : s .taken m ≡ length (itineraryIn n edge labels list m)) where
     abbrev ended : Progress
     ended = finishing s m
 
@@ -203,7 +203,7 @@ module _ {n : ℕ} {edge : ℕ → ℕ → Bool} {labels free falling list : Lis
         left-case c (λ h z. ne-same (λ q. omega arith) ∙ sym (ne-same (λ q. e (omega arith)))) (λ h z. ap (λ (x : ℕ). same x (suc b)) z)
         ∙ state .says .held c b l ∙ sym (finishing-other itinerary s m b c e)
 
-    arrived-at : (c : ℕ) → c < k → head (arrived r m) c ≡ getD (sourceIn list c ∷ routeIn edge labels list c) (ended .taken c) 0
+    arrived-at : (c : ℕ) → c < k → head (arrived r m) c ≡ getD (sourceIn list c ∷ routeIn n edge labels list c) (ended .taken c) 0
     unfolding arrived finishing
     arrived-at = state .says .at
 
@@ -217,7 +217,7 @@ module _ {n : ℕ} {edge : ℕ → ℕ → Bool} {labels free falling list : Lis
     unfolding arrived
     arrived-count = count-one ∙ sym (finishing-made s m k low fresh)
 
-    arrived-says : Says k edge labels list (arrived r m) ended
+    arrived-says : Says n edge labels list (arrived r m) ended
     arrived-says = record {
       lawful = finishing-lawful itinerary s m k (state .says .lawful) last;
       at = arrived-at;

@@ -1,4 +1,4 @@
--- Channels and their numbers: the ends can be read off, so ranks of hops are ranks of channels, and they rise along a lawful path.
+-- Channels and their numbers: the ends can be read off, so no two share a number and ranks of hops are ranks of channels; these rise along a lawful path.
 use mathlib.Core.Path.{_≡_, refl, _∙_, ap, ap₂}
 use mathlib.Core.Bool.{Bool, true}
 use mathlib.Core.List.{List, [], _∷_}
@@ -23,6 +23,10 @@ pub channels-at : (v : ℕ) (l : List ℕ) (i : ℕ) → i < length l → getD (
 channels-at v [] i b = absurd (not-suc-le-zero b)
 channels-at v (u ∷ l) zero b = refl
 channels-at v (u ∷ l) (suc i) b = channels-at u l i (le-of-suc-le-suc b)
+
+-- "Each link makes two channels, one a direction.": two directed links never share a channel number
+pub channel-ends : (a b c d : ℕ) → b < maxNodes → d < maxNodes → channel a b ≡ channel c d → (a ≡ c) × (b ≡ d)
+channel-ends a b c d p q e = (omega arith, omega arith)
 
 -- the rank of the hop along a channel
 unfoldable pub channelRank : ℕ → (ℕ → ℕ) → ℕ → ℕ

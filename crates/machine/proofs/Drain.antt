@@ -18,7 +18,7 @@ use Rattle.machine.specs.declared.Record.{Record}
 use Rattle.machine.specs.declared.Stepped.{Stepped}
 use Rattle.machine.specs.Step.{isDelivered, holder, counted, moved, arrived, stepOf}
 use Rattle.machine.specs.Fresh.{begunOf}
-use Rattle.machine.specs.Runs.{labelIn, Fabric, Listed, messagesIn, itineraryIn, allMoves, Reached, fresh, move, successful, successes}
+use Rattle.machine.specs.Runs.{labelIn, Tabled, Listed, messagesIn, itineraryIn, allMoves, Reached, fresh, move, successful, successes}
 use Rattle.machine.specs.Tells.{Says}
 use Rattle.machine.proofs.Moves.{Case, unknown, already, arrives, waits, moves, step-case, unchanged}
 use Rattle.machine.proofs.Channels.{channelRank}
@@ -27,57 +27,57 @@ use Rattle.machine.proofs.Hops.{more-to-take}
 use Rattle.machine.proofs.Total.{all-moves-small, all-moves-whole, channels-rising}
 use Rattle.machine.proofs.Reached.{unknown-high, holder-low, holder-holds, reached-state}
 
-module _ {n : ℕ} {edge : ℕ → ℕ → Bool} {labels free falling list : List ℕ} (fabric : Fabric n edge labels free falling) (listed : Listed n list) where
+module _ {n : ℕ} {edge : ℕ → ℕ → Bool} {labels free falling list : List ℕ} (tabled : Tabled n edge labels free falling) (listed : Listed n list) where
   abbrev k : ℕ
   k = messagesIn list
 
   abbrev itinerary : ℕ → List ℕ
-  itinerary = itineraryIn edge labels list
+  itinerary = itineraryIn n edge labels list
 
   -- what the claims allow, the machine does
   can-succeed : {r : Record} {s : Progress} (state : State n edge labels free falling list r s) (m : ℕ) → m < k → {x : Stepped} → Case r m x
       → CanStep k itinerary s m → successful (x .answer) ≡ true
-  can-succeed state m low (unknown t) c = let h = unknown-high fabric listed state m t in absurd (omega arith)
+  can-succeed state m low (unknown t) c = let h = unknown-high tabled listed state m t in absurd (omega arith)
   can-succeed state m low (already l u) (can-take f b h) = no-tf (sym (state .says .done m low) ∙ u) f
   can-succeed state m low (already l u) (can-finish f e) = no-tf (sym (state .says .done m low) ∙ u) f
   can-succeed state m low (arrives l u e) c = refl
   can-succeed state m low (waits l u d h) (can-take f b none) =
-      let i = holder-low fabric listed state m h in no-tf (holder-holds fabric listed state m low d _ i (omega arith)) (none _ i)
-  can-succeed state m low (waits l u d h) (can-finish f e) = let b = more-to-take fabric listed state m low d in absurd (omega arith)
+      let i = holder-low tabled listed state m h in no-tf (holder-holds tabled listed state m low d _ i (omega arith)) (none _ i)
+  can-succeed state m low (waits l u d h) (can-finish f e) = let b = more-to-take tabled listed state m low d in absurd (omega arith)
   can-succeed state m low (moves l u d h) c = refl
 
   module _ {r : Record} (run : Reached n labels free falling list r) where
     abbrev so-far : Progress
-    so-far = reached-state fabric listed run .0
+    so-far = reached-state tabled listed run .0
 
     state : State n edge labels free falling list r so-far
-    state = reached-state fabric listed run .1
+    state = reached-state tabled listed run .1
 
     -- "one message to a directed link, links held until delivery": what each message holds, read off the record, is what it holds by the claims
-    pub holding : (s : Progress) × Says k edge labels list r s
+    pub holding : (s : Progress) × Says n edge labels list r s
     holding = (so-far, state .says)
 
     -- "while any is undelivered some message can move"
     pub progress : Some k (λ m. non (isDelivered r m)) → Some k (λ m. successful (stepOf r m .answer))
     progress x =
         let undone : Some k (λ m. non (so-far .done m)) = record { at = x .at; low = x .low; fact = ap non (sym (state .says .done (x .at) (x .low))) ∙ x .fact } in
-        let c = some-can-step k itinerary (channelRank n (labelIn labels)) so-far (state .says .lawful) (channels-rising fabric listed) undone in
+        let c = some-can-step k itinerary (channelRank n (labelIn labels)) so-far (state .says .lawful) (channels-rising tabled listed) undone in
         record { at = c .at; low = c .low; fact = can-succeed state (c .at) (c .low) (step-case r (c .at)) (c .can) }
 
     -- "successful moves never exceed the sum of (shortest lawful hops + 1)"
-    pub never-more : r .moves ≤ allMoves edge labels list
+    pub never-more : r .moves ≤ allMoves n edge labels list
     never-more =
         let e = state .says .count in
         let b = made-le k itinerary so-far (state .says .lawful) in
-        let w = all-moves-whole fabric listed in
+        let w = all-moves-whole tabled listed in
         omega arith
 
     -- "reach it exactly when all are delivered"
-    pub all-delivered : (r .moves ≡ allMoves edge labels list) ↔ ((m : ℕ) → m < k → isDelivered r m ≡ true)
+    pub all-delivered : (r .moves ≡ allMoves n edge labels list) ↔ ((m : ℕ) → m < k → isDelivered r m ≡ true)
     all-delivered =
         let w = made-whole k itinerary so-far (state .says .lawful) in
         let c = state .says .count in
-        let a = all-moves-whole fabric listed in (
+        let a = all-moves-whole tabled listed in (
           λ e m l. state .says .done m l ∙ w .0 (sym c ∙ e ∙ a) m l,
           λ h. c ∙ w .1 (λ m l. sym (state .says .done m l) ∙ h m l) ∙ sym a,
         )
@@ -95,13 +95,13 @@ module _ {n : ℕ} {edge : ℕ → ℕ → Bool} {labels free falling list : Lis
         (state .says .held c b l ∙ all-free k itinerary so-far (λ m i. sym (state .says .done m i) ∙ h m i) b l c))
 
     -- as long as the sum is not reached some move succeeds
-    pub drains : r .moves < allMoves edge labels list → Some k (λ m. successful (stepOf r m .answer))
+    pub drains : r .moves < allMoves n edge labels list → Some k (λ m. successful (stepOf r m .answer))
     drains l =
         ⊎-elim progress (λ none. let e = all-delivered .1 (λ m b. non-false _ (none m b)) in absurd (omega arith))
         (find k (λ m. non (isDelivered r m)))
 
     counts : counted (r .moves) ≡ suc (r .moves)
-    counts = let b = never-more in let l = all-moves-small fabric listed in omega arith
+    counts = let b = never-more in let l = all-moves-small tabled listed in omega arith
 
     case-counts : {m : ℕ} {x : Stepped} → Case r m x → successful (x .answer) ≡ true → x .«record» .moves ≡ suc (r .moves)
     unfolding moved arrived
@@ -117,7 +117,7 @@ module _ {n : ℕ} {edge : ℕ → ℕ → Bool} {labels free falling list : Lis
 
   -- and leaves one less to make
   pub one-less : {r : Record} → Reached n labels free falling list r → (m : ℕ) → successful (stepOf r m .answer) ≡ true
-      → suc (allMoves edge labels list - stepOf r m .«record» .moves) ≡ allMoves edge labels list - r .moves
+      → suc (allMoves n edge labels list - stepOf r m .«record» .moves) ≡ allMoves n edge labels list - r .moves
   one-less run m h = let c = counts-one run m h in let b = never-more (move m run) in omega arith
 
   -- the count is that of the successful moves, and no invention
@@ -129,17 +129,26 @@ module _ {n : ℕ} {edge : ℕ → ℕ → Bool} {labels free falling list : Lis
       bcase (successful (stepOf r m .answer)) (λ t. let w = when-true 1 t in let c = counts-one run m t in omega arith)
       (λ t. let w = when-false 1 t in let c = ap (λ (x : Record). x .moves) (unchanged r m t) in omega arith)
 
+  -- so of the moves that succeed, in whichever order they are tried: never more than the sum, and the sum exactly when all are delivered
+  pub run-never-more : {r : Record} (run : Reached n labels free falling list r) → successes run ≤ allMoves n edge labels list
+  run-never-more run = rw (moves-are-successes run) at (never-more run)
+
+  pub run-all-delivered : {r : Record} (run : Reached n labels free falling list r)
+      → (successes run ≡ allMoves n edge labels list) ↔ ((m : ℕ) → m < k → isDelivered r m ≡ true)
+  unfolding isDelivered
+  run-all-delivered run = rw (moves-are-successes run) at (all-delivered run)
+
   -- from every record of a run moves lead on until the sum is reached: then all are delivered
   pub can-drain : {r : Record} → Reached n labels free falling list r
-      → (end : Record) × Reached n labels free falling list end × (end .moves ≡ allMoves edge labels list)
-  can-drain run = go (allMoves edge labels list) run (omega arith)
+      → (end : Record) × Reached n labels free falling list end × (end .moves ≡ allMoves n edge labels list)
+  can-drain run = go (allMoves n edge labels list) run (omega arith)
     where
-      go : (left : ℕ) {r : Record} → Reached n labels free falling list r → allMoves edge labels list ≤ r .moves + left
-          → (end : Record) × Reached n labels free falling list end × (end .moves ≡ allMoves edge labels list)
+      go : (left : ℕ) {r : Record} → Reached n labels free falling list r → allMoves n edge labels list ≤ r .moves + left
+          → (end : Record) × Reached n labels free falling list end × (end .moves ≡ allMoves n edge labels list)
       go zero {r} run b = let most = never-more run in (r, run, omega arith)
       go (suc left) {r} run b =
           let most = never-more run in
-          bcase (below (r .moves) (allMoves edge labels list))
+          bcase (below (r .moves) (allMoves n edge labels list))
           (λ t.
           let s = drains run (below-lt _ _ t) in
           let c = counts-one run (s .at) (s .fact) in

@@ -11,13 +11,13 @@ use Rattle.machine.specs.Sizes.{maxMessages}
 use Rattle.machine.specs.declared.Record.{Record}
 use Rattle.machine.specs.declared.Stepped.{Stepped}
 use Rattle.machine.specs.Step.{head, target, isDelivered, nextChannel, holder}
-use Rattle.machine.specs.Runs.{Fabric, Listed, messagesIn, itineraryIn, Reached, fresh, move}
+use Rattle.machine.specs.Runs.{Tabled, Listed, messagesIn, itineraryIn, Reached, fresh, move}
 use Rattle.machine.proofs.Moves.{Case, unknown, already, arrives, waits, moves, step-case}
 use Rattle.machine.proofs.State.{State, few-messages, none-taken, start-state}
 use Rattle.machine.proofs.Hops.{all-taken, next-wanted}
 use Rattle.machine.proofs.After.{moved-state, arrived-state}
 
-module _ {n : ℕ} {edge : ℕ → ℕ → Bool} {labels free falling list : List ℕ} (fabric : Fabric n edge labels free falling) (listed : Listed n list) where
+module _ {n : ℕ} {edge : ℕ → ℕ → Bool} {labels free falling list : List ℕ} (tabled : Tabled n edge labels free falling) (listed : Listed n list) where
   module _ {r : Record} {s : Progress} (state : State n edge labels free falling list r s) (m : ℕ) where
     pub known : m < r .messages → m < messagesIn list
     known l = let e = state .kept .messages in omega arith
@@ -28,7 +28,7 @@ module _ {n : ℕ} {edge : ℕ → ℕ → Bool} {labels free falling list : Lis
         (λ b.
         let l = below-lt _ _ b in
         let e = state .kept .messages in
-        let f = few-messages fabric listed in
+        let f = few-messages tabled listed in
         no-tf (both (lt-below {a = m} {b = r .messages} (omega arith)) (lt-below {a = m} {b = maxMessages} (omega arith))) t)
         (below-le _ _)
 
@@ -40,9 +40,9 @@ module _ {n : ℕ} {edge : ℕ → ℕ → Bool} {labels free falling list : Lis
     holder-low h = let o = state .says .owners (nextChannel r m) in omega arith
 
     pub holder-holds : m < messagesIn list → (head r m ≡ target r m → ⊥) → (b : ℕ) → b < messagesIn list → holder r (nextChannel r m) ≡ suc b
-        → holds (itineraryIn edge labels list) s b (wanted (itineraryIn edge labels list) s m) ≡ true
+        → holds (itineraryIn n edge labels list) s b (wanted (itineraryIn n edge labels list) s m) ≡ true
     holder-holds low d b l e =
-        sym (ap (holds (itineraryIn edge labels list) s b) (next-wanted fabric listed state m low d))
+        sym (ap (holds (itineraryIn n edge labels list) s b) (next-wanted tabled listed state m low d))
         ∙ sym (state .says .held (nextChannel r m) b l) ∙ eq-same e
 
     case-state : {x : Stepped} → Case r m x → (p : Progress) × State n edge labels free falling list (x .«record») p
@@ -50,10 +50,10 @@ module _ {n : ℕ} {edge : ℕ → ℕ → Bool} {labels free falling list : Lis
     case-state (already l u) = (s, state)
     case-state (arrives l u e) =
         let low = known l in
-        (finishing s m, arrived-state fabric listed state m low (not-done low u) (all-taken fabric listed state m low e))
+        (finishing s m, arrived-state tabled listed state m low (not-done low u) (all-taken tabled listed state m low e))
     case-state (waits l u d h) = (s, state)
-    case-state (moves l u d h) = let low = known l in (taking s m, moved-state fabric listed state m low (not-done low u) d h)
+    case-state (moves l u d h) = let low = known l in (taking s m, moved-state tabled listed state m low (not-done low u) d h)
 
   pub reached-state : {r : Record} → Reached n labels free falling list r → (s : Progress) × State n edge labels free falling list r s
-  reached-state fresh = (none-taken, start-state fabric listed)
+  reached-state fresh = (none-taken, start-state tabled listed)
   reached-state (move {r = r} m run) = case-state (reached-state run .1) m (step-case r m)

@@ -13,7 +13,7 @@ use Rattle.machine.specs.Sizes.{maxMessages}
 use Rattle.machine.specs.declared.Record.{Record}
 use Rattle.machine.specs.declared.Stepped.{Stepped}
 use Rattle.machine.specs.Step.{head, target, isFalling, isDelivered, tableOf, nextNode, nextChannel, holder, stepOf}
-use Rattle.machine.specs.Runs.{Fabric, Listed, messagesIn, Reached, successful}
+use Rattle.machine.specs.Runs.{Tabled, Listed, messagesIn, Reached, successful}
 use Rattle.machine.specs.Ready.{messagesOf, ready, allDelivered, told}
 use Rattle.machine.proofs.Moves.{Case, unknown, already, arrives, waits, moves, step-case}
 use Rattle.machine.proofs.State.{few-messages}
@@ -63,10 +63,10 @@ pub one-undelivered : (r : Record) (m : ℕ) → m < messagesOf r → isDelivere
 one-undelivered r m l u = sym (refute (allDelivered r) (λ t. no-tf (delivered-every r t m l) u))
 
 -- the records of a run have the messages of the list, and while one is undelivered one is ready
-module _ {n : ℕ} {edge : ℕ → ℕ → Bool} {labels free falling list : List ℕ} (fabric : Fabric n edge labels free falling) (listed : Listed n list)
+module _ {n : ℕ} {edge : ℕ → ℕ → Bool} {labels free falling list : List ℕ} (tabled : Tabled n edge labels free falling) (listed : Listed n list)
     {r : Record} (run : Reached n labels free falling list r) where
   pub messages-listed : messagesOf r ≡ messagesIn list
-  messages-listed = let e = reached-state fabric listed run .1 .kept .messages in let f = few-messages fabric listed in omega arith
+  messages-listed = let e = reached-state tabled listed run .1 .kept .messages in let f = few-messages tabled listed in omega arith
 
   pub one-ready : allDelivered r ≡ false → Some (messagesOf r) (ready r)
   one-ready h =
@@ -74,7 +74,7 @@ module _ {n : ℕ} {edge : ℕ → ℕ → Bool} {labels free falling list : Lis
       (λ s.
       let e = messages-listed in
       let k = s .low in
-      let p = progress fabric listed run (record { at = s .at; low = omega arith; fact = s .fact }) in
+      let p = progress tabled listed run (record { at = s .at; low = omega arith; fact = s .fact }) in
       let l = p .low in
       let b : p .at < messagesOf r = omega arith in
       record { at = p .at; low = b; fact = ready-moves r (p .at) b ∙ p .fact })

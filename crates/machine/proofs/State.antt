@@ -16,7 +16,7 @@ use Rattle.machine.specs.Sizes.{maxMessages, maxPairs}
 use Rattle.machine.specs.declared.Record.{Record}
 use Rattle.machine.specs.Step.{head, target, isFalling, isDelivered}
 use Rattle.machine.specs.Fresh.{sourceIn, targetIn, zeros, begunOf}
-use Rattle.machine.specs.Runs.{labelIn, Fabric, Listed, messagesIn, routeIn, itineraryIn}
+use Rattle.machine.specs.Runs.{labelIn, Tabled, Listed, messagesIn, routeIn, itineraryIn}
 use Rattle.machine.specs.Tells.{Says}
 use Rattle.machine.proofs.Way.{OnWay, way-start}
 
@@ -35,10 +35,10 @@ pub record Kept (n : ℕ) (labels free falling list : List ℕ) (r : Record) : T
 
 -- message m is on its way along its route
 abbrev pub OnRoute : ℕ → (ℕ → ℕ → Bool) → List ℕ → List ℕ → ℕ → ℕ → Bool → ℕ → Type 0
-OnRoute n edge labels list m = OnWay n edge (labelIn labels) (sourceIn list m) (targetIn list m) (routeIn edge labels list m)
+OnRoute n edge labels list m = OnWay n edge (labelIn labels) (sourceIn list m) (targetIn list m) (routeIn n edge labels list m)
 
 pub record State (n : ℕ) (edge : ℕ → ℕ → Bool) (labels free falling list : List ℕ) (r : Record) (s : Progress) : Type 0 where
-  pub says : Says (messagesIn list) edge labels list r s
+  pub says : Says n edge labels list r s
   pub kept : Kept n labels free falling list r
   pub way : (m : ℕ) → m < messagesIn list → OnRoute n edge labels list m (s .taken m) (non (isFalling r m)) (head r m)
 
@@ -58,7 +58,7 @@ none-made : (k : ℕ) → made k none-taken ≡ 0
 unfolding made
 none-made k = sum-zero k _ (λ m l. refl)
 
-module _ {n : ℕ} {edge : ℕ → ℕ → Bool} {labels free falling list : List ℕ} (fabric : Fabric n edge labels free falling) (listed : Listed n list) where
+module _ {n : ℕ} {edge : ℕ → ℕ → Bool} {labels free falling list : List ℕ} (tabled : Tabled n edge labels free falling) (listed : Listed n list) where
   pub few-messages : messagesIn list ≤ maxMessages
   unfolding messagesIn
   few-messages = let l = listed .short in omega arith
@@ -97,7 +97,7 @@ module _ {n : ℕ} {edge : ℕ → ℕ → Bool} {labels free falling list : Lis
   unfolding begunOf isFalling
   start-free m = ap (λ (x : ℕ). non (non (same x 0))) (zeros-at maxMessages m) ∙ true-non (false-non (same-refl 0))
 
-  start-says : Says (messagesIn list) edge labels list start none-taken
+  start-says : Says n edge labels list start none-taken
   unfolding begunOf isDelivered
   start-says = record {
     lawful = record { within = λ m l. zero-le; finished = λ m l d. no-tf d refl };
@@ -105,7 +105,7 @@ module _ {n : ℕ} {edge : ℕ → ℕ → Bool} {labels free falling list : Lis
     done = λ m l. ap (λ (x : ℕ). non (same x 0)) (zeros-at maxMessages m) ∙ false-non (same-refl 0);
     held = λ c m l.
         ap (λ (x : ℕ). same x (suc m)) (zeros-at maxPairs c) ∙ ne-same (λ e. omega arith)
-        ∙ sym (refute _ (λ h. let b = holds-held (itineraryIn edge labels list) none-taken m c h .before in omega arith));
+        ∙ sym (refute _ (λ h. let b = holds-held (itineraryIn n edge labels list) none-taken m c h .before in omega arith));
     owners = λ c. let z = zeros-at maxPairs c in omega arith;
     count = sym (none-made (messagesIn list));
   }
@@ -113,9 +113,9 @@ module _ {n : ℕ} {edge : ℕ → ℕ → Bool} {labels free falling list : Lis
   start-way : (m : ℕ) → m < messagesIn list → OnRoute n edge labels list m 0 (non (isFalling start m)) (head start m)
   unfolding routeIn
   start-way m l =
-      let r = climbing-run n edge (labelIn labels) (fabric .climbing) (fabric .network .undirected) (sourceIn list m) (targetIn list m) (source-low m l) (target-low m l) in
+      let r = climbing-run n edge (labelIn labels) (tabled .climbing) (tabled .network .undirected) (sourceIn list m) (targetIn list m) (source-low m l) (target-low m l) in
       rw (start-free m, start-head m l)
-      (way-start (fabric .many) (fabric .network .inside) (target-low m l) (source-low m l) _ (r .1))
+      (way-start (tabled .network .inside) (target-low m l) (source-low m l) _ (r .1))
 
   pub start-state : State n edge labels free falling list start none-taken
   start-state = record {

@@ -1,4 +1,4 @@
--- The sum of (hops + 1): it is the whole of the claims, and small; each route is a shortest lawful path.
+-- The sum of (hops + 1): each route is a shortest lawful path, so it is that of any such paths; it is the whole of the claims, and small.
 use mathlib.Core.Path.{_≡_, sym, ap}
 use mathlib.Core.Bool.{Bool}
 use mathlib.Core.List.{List}
@@ -8,14 +8,14 @@ use native.Mathlib.Omega.{arith}
 use lib.ListN.{length}
 use Rattle.finite.specs.Sum.{sumTo}
 use Rattle.finite.proofs.Sum.{sum-none, sum-more, sum-cong}
-use Rattle.graph.specs.Network.{Network}
 use Rattle.lawful.specs.Path.{LawfulTo, Shortest}
-use Rattle.lawful.proofs.Climb.{climbing-way}
-use Rattle.lawful.proofs.Routes.{route-shortest, route-length}
+use Rattle.lawful.proofs.Routes.{climbing-route}
+use Rattle.lawful.proofs.Few.{few-on-route}
 use Rattle.nodes.specs.Limits.{maxNodes}
 use Rattle.claims.specs.Claims.{Rising, whole}
+use Rattle.machine.specs.Sizes.{maxMessages}
 use Rattle.machine.specs.Fresh.{sourceIn, targetIn}
-use Rattle.machine.specs.Runs.{labelIn, Fabric, Listed, messagesIn, routeIn, itineraryIn, allMoves}
+use Rattle.machine.specs.Runs.{labelIn, Tabled, Listed, messagesIn, routeIn, itineraryIn, allMoves}
 use Rattle.machine.proofs.Channels.{channels-length, channelRank, channels-rise}
 use Rattle.machine.proofs.State.{few-messages, source-low, target-low}
 
@@ -29,48 +29,45 @@ sum-within (suc n) b f h =
     let m = mul-suc b n in
     omega arith
 
-module _ {n : ℕ} {edge : ℕ → ℕ → Bool} {labels free falling list : List ℕ} (fabric : Fabric n edge labels free falling) (listed : Listed n list) where
-  -- the network among all the numbers that a node may have
-  network-wide : Network maxNodes edge
-  network-wide = record {
-    undirected = fabric .network .undirected;
-    no-loop = fabric .network .no-loop;
-    inside = λ a b e. let l = fabric .network .inside a b e in let m = fabric .many in omega arith;
-  }
-
+module _ {n : ℕ} {edge : ℕ → ℕ → Bool} {labels free falling list : List ℕ} (tabled : Tabled n edge labels free falling) (listed : Listed n list) where
   module _ (m : ℕ) (low : m < messagesIn list) where
-    path-there : (l : List ℕ) × LawfulTo edge (labelIn labels) (sourceIn list m) (targetIn list m) l
-    path-there =
-        climbing-way n edge (labelIn labels) (fabric .climbing) (fabric .network .undirected) (sourceIn list m) (targetIn list m) (source-low fabric listed m low) (target-low fabric listed m low)
-
-    target-wide : targetIn list m < maxNodes
-    target-wide = let t = target-low fabric listed m low in let b = fabric .many in omega arith
-
-    -- a message's route is a shortest lawful path from its source to its destination
-    pub hops-shortest : Shortest (LawfulTo edge (labelIn labels) (sourceIn list m) (targetIn list m)) (routeIn edge labels list m)
+    -- a message's route is a shortest lawful path from its source to its destination, and has fewer hops than there are nodes
+    pub hops-shortest : Shortest (LawfulTo edge (labelIn labels) (sourceIn list m) (targetIn list m)) (routeIn n edge labels list m)
     unfolding routeIn
     hops-shortest =
-        route-shortest maxNodes edge (labelIn labels) network-wide (fabric .climbing .distinct) (sourceIn list m) (targetIn list m) (path-there .0) target-wide (path-there .1) .shortest
+        climbing-route n edge (labelIn labels) (tabled .network) (tabled .climbing) (sourceIn list m) (targetIn list m) (source-low tabled listed m low) (target-low tabled listed m low) .shortest
 
-    route-small : length (routeIn edge labels list m) < 128
+    hops-few : length (routeIn n edge labels list m) < n
     unfolding routeIn
-    route-small =
-        route-length maxNodes edge (labelIn labels) network-wide (fabric .climbing .distinct) (sourceIn list m) (targetIn list m) (path-there .0) target-wide (path-there .1)
+    hops-few =
+        few-on-route n edge (labelIn labels) (tabled .network) (tabled .climbing) (sourceIn list m) (targetIn list m) (source-low tabled listed m low) (target-low tabled listed m low)
 
-  pub all-moves-small : allMoves edge labels list ≤ 32768
+  -- "the sum of (shortest lawful hops + 1)", over any shortest lawful paths
+  pub sum-of-shortest : (paths : ℕ → List ℕ)
+      → ((m : ℕ) → m < messagesIn list → Shortest (LawfulTo edge (labelIn labels) (sourceIn list m) (targetIn list m)) (paths m))
+      → allMoves n edge labels list ≡ sumTo (messagesIn list) (λ m. length (paths m) + 1)
+  unfolding allMoves
+  sum-of-shortest paths shortest =
+      sum-cong (messagesIn list) _ _
+      (λ m l.
+      let a = hops-shortest m l .least (paths m) (shortest m l .is) in
+      let b = shortest m l .least (routeIn n edge labels list m) (hops-shortest m l .is) in
+      omega arith)
+
+  pub all-moves-small : allMoves n edge labels list ≤ maxNodes * maxMessages
   unfolding allMoves
   all-moves-small =
-      let b = sum-within (messagesIn list) 128 (λ m. length (routeIn edge labels list m) + 1) (λ m l. let h = route-small m l in omega arith) in
-      let k = few-messages fabric listed in
+      let b = sum-within (messagesIn list) maxNodes (λ m. length (routeIn n edge labels list m) + 1) (λ m l. let h = hops-few m l in omega arith) in
+      let k = few-messages tabled listed in
       omega arith
 
-  pub all-moves-whole : allMoves edge labels list ≡ whole (messagesIn list) (itineraryIn edge labels list)
+  pub all-moves-whole : allMoves n edge labels list ≡ whole (messagesIn list) (itineraryIn n edge labels list)
   unfolding allMoves whole itineraryIn
-  all-moves-whole = sum-cong (messagesIn list) _ _ (λ m l. ap (λ (x : ℕ). x + 1) (sym (channels-length (sourceIn list m) (routeIn edge labels list m))))
+  all-moves-whole = sum-cong (messagesIn list) _ _ (λ m l. ap (λ (x : ℕ). x + 1) (sym (channels-length (sourceIn list m) (routeIn n edge labels list m))))
 
   -- ranks rise along each message's channels
-  pub channels-rising : Rising (messagesIn list) (itineraryIn edge labels list) (channelRank n (labelIn labels))
+  pub channels-rising : Rising (messagesIn list) (itineraryIn n edge labels list) (channelRank n (labelIn labels))
   unfolding itineraryIn
   channels-rising m low i j =
-      channels-rise n edge (labelIn labels) (fabric .many) (fabric .network .inside) (sourceIn list m) (targetIn list m) (routeIn edge labels list m)
-      (hops-shortest m low .is) (fabric .climbing .distinct) (fabric .highest) i j
+      channels-rise n edge (labelIn labels) (tabled .many) (tabled .network .inside) (sourceIn list m) (targetIn list m) (routeIn n edge labels list m)
+      (hops-shortest m low .is) (tabled .climbing .distinct) (tabled .highest) i j

@@ -11,7 +11,6 @@ use lib.Seq.{getD-drop, drop-drop}
 use Rattle.lawful.specs.Entry.{entry, after, follow, routeOf}
 use Rattle.lawful.proofs.Run.{Hop, Run, hop-edge}
 use Rattle.lawful.proofs.Routes.{hopsOf, Nearer, hops-bound, entry-nearer, follow-here, follow-there}
-use Rattle.nodes.specs.Limits.{maxNodes}
 
 -- what stands at and after place i of a list
 pub record Split (l : List ℕ) (i x : ℕ) (rest : List ℕ) : Type 0 where
@@ -37,14 +36,11 @@ pub record OnWay (n : ℕ) (edge : ℕ → ℕ → Bool) (label : ℕ → ℕ) (
   pub left : ℕ
   pub run : Run edge label class node t left
   pub fuel : ℕ
-  pub enough : hopsOf maxNodes edge label t class node ≤ fuel
-  pub rest : follow edge label (entry maxNodes edge label t) t fuel class node ≡ drop i l
+  pub enough : hopsOf n edge label t class node ≤ fuel
+  pub rest : follow edge label (entry n edge label t) t fuel class node ≡ drop i l
 
-within-limit : {n : ℕ} {edge : ℕ → ℕ → Bool} → n ≤ maxNodes → ((a b : ℕ) → edge a b ≡ true → b < n) → (a b : ℕ) → edge a b ≡ true → b < maxNodes
-within-limit many inside a b e = let l = inside a b e in omega arith
-
-module _ {n : ℕ} {edge : ℕ → ℕ → Bool} {label : ℕ → ℕ} (many : n ≤ maxNodes) (inside : (a b : ℕ) → edge a b ≡ true → b < n) {v t : ℕ} (low : t < n) where
-  pub way-start : v < n → (k : ℕ) → Run edge label true v t k → OnWay n edge label v t (routeOf maxNodes edge label v t) 0 true v
+module _ {n : ℕ} {edge : ℕ → ℕ → Bool} {label : ℕ → ℕ} (inside : (a b : ℕ) → edge a b ≡ true → b < n) {v t : ℕ} (low : t < n) where
+  pub way-start : v < n → (k : ℕ) → Run edge label true v t k → OnWay n edge label v t (routeOf n edge label v t) 0 true v
   unfolding routeOf
   way-start l k r = record {
     low = l;
@@ -52,8 +48,8 @@ module _ {n : ℕ} {edge : ℕ → ℕ → Bool} {label : ℕ → ℕ} (many : n
     at = refl;
     left = k;
     run = r;
-    fuel = maxNodes + maxNodes;
-    enough = le-of-lt (hops-bound maxNodes edge label t (within-limit many inside) (omega arith) r);
+    fuel = n + n;
+    enough = le-of-lt (hops-bound n edge label t inside low r);
     rest = refl;
   }
 
@@ -62,20 +58,20 @@ module _ {n : ℕ} {edge : ℕ → ℕ → Bool} {label : ℕ → ℕ} (many : n
     pub way-end : node ≡ t → i ≡ length l
     way-end e =
         let b = w .within in
-        let f = ap (follow edge label (entry maxNodes edge label t) t (w .fuel) class) e in
-        let z = drop-end l i (sym (w .rest) ∙ f ∙ follow-here edge label (entry maxNodes edge label t) t (w .fuel) class) in
+        let f = ap (follow edge label (entry n edge label t) t (w .fuel) class) e in
+        let z = drop-end l i (sym (w .rest) ∙ f ∙ follow-here edge label (entry n edge label t) t (w .fuel) class) in
         omega arith
 
     abbrev next : ℕ
-    next = entry maxNodes edge label t class node
+    next = entry n edge label t class node
 
     abbrev class-then : Bool
     class-then = after edge label class node next
 
     -- anywhere else the entry is the next node of the route, and the message is on its way from there
     module _ (d : node ≡ t → ⊥) where
-      nearer : Nearer maxNodes edge label t class node next
-      nearer = entry-nearer maxNodes edge label t (within-limit many inside) (omega arith) d (w .run)
+      nearer : Nearer n edge label t class node next
+      nearer = entry-nearer n edge label t inside low d (w .run)
 
       pub way-hop : Hop edge label class node class-then next
       way-hop = nearer .first
@@ -83,17 +79,17 @@ module _ {n : ℕ} {edge : ℕ → ℕ → Bool} {label : ℕ → ℕ} (many : n
       pub way-next : OnWay n edge label v t l (suc i) class-then next
       way-next = go (w .fuel) (w .enough) (w .rest)
         where
-          go : (k : ℕ) → hopsOf maxNodes edge label t class node ≤ k → follow edge label (entry maxNodes edge label t) t k class node ≡ drop i l
+          go : (k : ℕ) → hopsOf n edge label t class node ≤ k → follow edge label (entry n edge label t) t k class node ≡ drop i l
               → OnWay n edge label v t l (suc i) class-then next
           go zero b e = let less = nearer .less in absurd (omega arith)
           go (suc k) b e =
               let less = nearer .less in
-              let s = drop-split l i next _ (sym e ∙ follow-there edge label (entry maxNodes edge label t) t k class node d) in
+              let s = drop-split l i next _ (sym e ∙ follow-there edge label (entry n edge label t) t k class node d) in
               record {
                 low = inside _ _ (hop-edge way-hop);
                 within = s .low;
                 at = sym (s .here);
-                left = hopsOf maxNodes edge label t class-then next;
+                left = hopsOf n edge label t class-then next;
                 run = nearer .run;
                 fuel = k;
                 enough = omega arith;

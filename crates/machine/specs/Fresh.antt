@@ -1,8 +1,9 @@
 -- The record that a fresh start fills.
-use mathlib.Core.List.{List}
+use mathlib.Core.List.{List, []}
 use Prim.Native.Nat.{ℕ, _+_, _*_, _/_, min}
 use lib.ListN.{length, getD, replicate}
 use Rattle.finite.specs.Lists.{tabulate}
+use Rattle.nodes.specs.Limits.{maxNodes}
 use Rattle.machine.specs.Sizes.{maxMessages, maxPairs}
 use Rattle.machine.specs.declared.Record.{Record}
 
@@ -31,3 +32,7 @@ begunOf n labels free falling list = record {
   delivered = zeros maxMessages;
   holders = zeros maxPairs;
 }
+
+-- a record to start with: no nodes, no messages
+abbrev pub blankRecord : Record
+blankRecord = begunOf 0 (replicate maxNodes 0) (replicate maxPairs 0) (replicate maxPairs 0) []

@@ -19,13 +19,13 @@ abbrev pub labelIn : List ℕ → ℕ → ℕ
 labelIn labels v = getD labels v 0
 
 -- a network of n nodes with a climbing labelling, and the two tables of its entries, row by row
-pub record Fabric (n : ℕ) (edge : ℕ → ℕ → Bool) (labels free falling : List ℕ) : Type 0 where
+pub record Tabled (n : ℕ) (edge : ℕ → ℕ → Bool) (labels free falling : List ℕ) : Type 0 where
   pub many : n ≤ maxNodes
   pub network : Network n edge
   pub climbing : Climbing n edge (labelIn labels)
   pub highest : (v : ℕ) → v < n → labelIn labels v ≤ n
-  pub free-rows : (v t : ℕ) → v < n → t < n → getD free (v * n + t) 0 ≡ entry maxNodes edge (labelIn labels) t true v
-  pub falling-rows : (v t : ℕ) → v < n → t < n → getD falling (v * n + t) 0 ≡ entry maxNodes edge (labelIn labels) t false v
+  pub free-rows : (v t : ℕ) → v < n → t < n → getD free (v * n + t) 0 ≡ entry n edge (labelIn labels) t true v
+  pub falling-rows : (v t : ℕ) → v < n → t < n → getD falling (v * n + t) 0 ≡ entry n edge (labelIn labels) t false v
 
 -- 01: "a list of byte pairs (source, destination), 0 to 256 of them", each a node
 pub record Listed (n : ℕ) (list : List ℕ) : Type 0 where
@@ -36,19 +36,19 @@ unfoldable pub messagesIn : List ℕ → ℕ
 messagesIn list = length list / 2
 
 -- the nodes after message m's source on its table's route, and the channels between them
-unfoldable pub routeIn : (ℕ → ℕ → Bool) → List ℕ → List ℕ → ℕ → List ℕ
-routeIn edge labels list m = routeOf maxNodes edge (labelIn labels) (sourceIn list m) (targetIn list m)
+unfoldable pub routeIn : ℕ → (ℕ → ℕ → Bool) → List ℕ → List ℕ → ℕ → List ℕ
+routeIn n edge labels list m = routeOf n edge (labelIn labels) (sourceIn list m) (targetIn list m)
 
 abbrev pub channelsOf : ℕ → List ℕ → List ℕ
 channelsOf v [] = []
 channelsOf v (u ∷ l) = channel v u ∷ channelsOf u l
 
-unfoldable pub itineraryIn : (ℕ → ℕ → Bool) → List ℕ → List ℕ → ℕ → List ℕ
-itineraryIn edge labels list m = channelsOf (sourceIn list m) (routeIn edge labels list m)
+unfoldable pub itineraryIn : ℕ → (ℕ → ℕ → Bool) → List ℕ → List ℕ → ℕ → List ℕ
+itineraryIn n edge labels list m = channelsOf (sourceIn list m) (routeIn n edge labels list m)
 
 -- "the sum of (shortest lawful hops + 1)"
-unfoldable pub allMoves : (ℕ → ℕ → Bool) → List ℕ → List ℕ → ℕ
-allMoves edge labels list = sumTo (messagesIn list) (λ m. length (routeIn edge labels list m) + 1)
+unfoldable pub allMoves : ℕ → (ℕ → ℕ → Bool) → List ℕ → List ℕ → ℕ
+allMoves n edge labels list = sumTo (messagesIn list) (λ m. length (routeIn n edge labels list m) + 1)
 
 -- the records that a start and moves of any messages in any order lead to
 pub data Reached (n : ℕ) (labels free falling list : List ℕ) : Record → Type 0 where

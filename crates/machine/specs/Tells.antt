@@ -12,17 +12,17 @@ use Rattle.machine.specs.declared.Answer.{Answer}
 use Rattle.machine.specs.declared.Answer.the-variants.{Already, Moved, Blocked, Delivered, Refused}
 use Rattle.machine.specs.Step.{head, isDelivered, nextChannel, holder}
 use Rattle.machine.specs.Fresh.{sourceIn}
-use Rattle.machine.specs.Runs.{routeIn, itineraryIn}
+use Rattle.machine.specs.Runs.{messagesIn, routeIn, itineraryIn}
 
 -- the record says that message m is `taken m` hops along its route and whether it is delivered, and holds just the channels of those hops until it is;
--- a channel's holder is 0 or one of the k messages plus 1; and the moves are those made
-pub record Says (k : ℕ) (edge : ℕ → ℕ → Bool) (labels list : List ℕ) (r : Record) (s : Progress) : Type 0 where
-  pub lawful : Lawful k (itineraryIn edge labels list) s
-  pub at : (m : ℕ) → m < k → head r m ≡ getD (sourceIn list m ∷ routeIn edge labels list m) (s .taken m) 0
-  pub done : (m : ℕ) → m < k → isDelivered r m ≡ s .done m
-  pub held : (c m : ℕ) → m < k → same (holder r c) (suc m) ≡ holds (itineraryIn edge labels list) s m c
-  pub owners : (c : ℕ) → holder r c ≤ k
-  pub count : r .moves ≡ made k s
+-- a channel's holder is 0 or one of the messages plus 1; and the moves are those made
+pub record Says (n : ℕ) (edge : ℕ → ℕ → Bool) (labels list : List ℕ) (r : Record) (s : Progress) : Type 0 where
+  pub lawful : Lawful (messagesIn list) (itineraryIn n edge labels list) s
+  pub at : (m : ℕ) → m < messagesIn list → head r m ≡ getD (sourceIn list m ∷ routeIn n edge labels list m) (s .taken m) 0
+  pub done : (m : ℕ) → m < messagesIn list → isDelivered r m ≡ s .done m
+  pub held : (c m : ℕ) → m < messagesIn list → same (holder r c) (suc m) ≡ holds (itineraryIn n edge labels list) s m c
+  pub owners : (c : ℕ) → holder r c ≤ messagesIn list
+  pub count : r .moves ≡ made (messagesIn list) s
 
 -- a move takes the channel c for message m: just that one changes its holder, and nobody held it
 pub record TakesOne (r after : Record) (m c : ℕ) : Type 0 where
@@ -43,25 +43,25 @@ pub record BlockedBy (k : ℕ) (r : Record) (m b : ℕ) : Type 0 where
   pub holds-it : holder r (nextChannel r m) ≡ suc b
 
 -- message m had hops to go and took the next channel of its route
-pub record Took (k : ℕ) (edge : ℕ → ℕ → Bool) (labels list : List ℕ) (r : Record) (m : ℕ) (after : Record) : Type 0 where
+pub record Took (n : ℕ) (edge : ℕ → ℕ → Bool) (labels list : List ℕ) (r : Record) (m : ℕ) (after : Record) : Type 0 where
   pub progress : Progress
-  pub before : Says k edge labels list r progress
-  pub more : progress .taken m < length (itineraryIn edge labels list m)
-  pub one : TakesOne r after m (wanted (itineraryIn edge labels list) progress m)
-  pub then : Says k edge labels list after (taking progress m)
+  pub before : Says n edge labels list r progress
+  pub more : progress .taken m < length (itineraryIn n edge labels list m)
+  pub one : TakesOne r after m (wanted (itineraryIn n edge labels list) progress m)
+  pub then : Says n edge labels list after (taking progress m)
 
 -- message m had taken all the channels of its route and gave them back
-pub record Arrived (k : ℕ) (edge : ℕ → ℕ → Bool) (labels list : List ℕ) (r : Record) (m : ℕ) (after : Record) : Type 0 where
+pub record Arrived (n : ℕ) (edge : ℕ → ℕ → Bool) (labels list : List ℕ) (r : Record) (m : ℕ) (after : Record) : Type 0 where
   pub progress : Progress
-  pub before : Says k edge labels list r progress
-  pub all : progress .taken m ≡ length (itineraryIn edge labels list m)
+  pub before : Says n edge labels list r progress
+  pub all : progress .taken m ≡ length (itineraryIn n edge labels list m)
   pub back : GivesBack r after m
-  pub then : Says k edge labels list after (finishing progress m)
+  pub then : Says n edge labels list after (finishing progress m)
 
 -- what each answer to a move of message m tells of the record and of the one after it
 abbrev pub Tells : ℕ → (ℕ → ℕ → Bool) → List ℕ → List ℕ → Record → ℕ → Record → Answer → Type 0
-Tells k edge labels list r m after Already = (m < k) × (isDelivered r m ≡ true) × (after ≡ r)
-Tells k edge labels list r m after Moved = (m < k) × (isDelivered r m ≡ false) × Took k edge labels list r m after
-Tells k edge labels list r m after (Blocked b) = (m < k) × (isDelivered r m ≡ false) × BlockedBy k r m b × (after ≡ r)
-Tells k edge labels list r m after Delivered = (m < k) × (isDelivered r m ≡ false) × Arrived k edge labels list r m after
-Tells k edge labels list r m after (Refused f) = (k ≤ m) × (f ≡ Unknown 0) × (after ≡ r)
+Tells n edge labels list r m after Already = (m < messagesIn list) × (isDelivered r m ≡ true) × (after ≡ r)
+Tells n edge labels list r m after Moved = (m < messagesIn list) × (isDelivered r m ≡ false) × Took n edge labels list r m after
+Tells n edge labels list r m after (Blocked b) = (m < messagesIn list) × (isDelivered r m ≡ false) × BlockedBy (messagesIn list) r m b × (after ≡ r)
+Tells n edge labels list r m after Delivered = (m < messagesIn list) × (isDelivered r m ≡ false) × Arrived n edge labels list r m after
+Tells n edge labels list r m after (Refused f) = (messagesIn list ≤ m) × (f ≡ Unknown 0) × (after ≡ r)

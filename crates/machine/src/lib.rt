@@ -5,7 +5,7 @@ ghost use lib.ListN.{getD};
 ghost use Rattle.finite.specs.Lists.{tabulate};
 ghost use Rattle.machine.specs.Sizes.{maxMessages};
 ghost use Rattle.machine.specs.Step.{head, holder, counted, moved, arrived, refusedOf, stepOf};
-ghost use Rattle.machine.specs.Fresh.{begunOf};
+ghost use Rattle.machine.specs.Fresh.{begunOf, blankRecord};
 ghost use Rattle.machine.specs.Ready.{told, ready, allDelivered};
 
 mod ahead; // ahead.rt: where a message is, and what is ahead of it
@@ -262,4 +262,13 @@ pub fn begun(
         delivered,
         holders,
     }
+}
+
+// A record to start with: a start fills it anew.
+pub fn blank() -> Record
+    ensures { λ r. ⌜ r ≡ blankRecord ⌝ }
+{
+    let labels = [0u8; MAX_NODES];
+    let rows = [0u8; MAX_PAIRS];
+    begun(0, labels, rows, rows, b"")
 }

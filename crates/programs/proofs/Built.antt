@@ -1,55 +1,52 @@
--- What a call that writes has left in a buffer with room for it is what the program prints.
-use mathlib.Core.Path.{_≡_, refl, sym, _∙_, ap}
+-- What a build that finds room leaves in the buffer is what the program prints.
+use mathlib.Core.Path.{_≡_, refl, sym, _∙_, subst}
 use mathlib.Core.Bool.{true}
-use mathlib.Core.List.{List, _++_}
+use mathlib.Core.List.{List}
 use Prim.Native.Nat.{ℕ, _≤_}
-use native.Mathlib.Omega.{arith}
-use lib.ListN.{length, take, drop, length-take}
-use lib.Seq.{take-at}
-use borrow.Author.Tests.{le-leb}
+use native.Mathlib.Nat.{le-trans}
+use lib.Dec.{lit≤}
+use lib.ListN.{length}
 use Rattle.refusal.specs.declared.Refusal.{Refusal}
 use Rattle.refusal.specs.declared.Verdict.{Verdict}
 use Rattle.refusal.specs.declared.Verdict.the-variants.{Fine, Fault}
+use Rattle.written.specs.declared.Written.{Written}
 use Rattle.written.specs.declared.Written.the-variants.{Bytes, NotWritten}
-use Rattle.written.specs.Written.{writtenOf, writtenInto, Writes}
-use Rattle.lines.specs.Lines.{refusalLine, orRefused}
-use Rattle.format.specs.Contents.{nodesIn, pairsIn}
-use Rattle.image.specs.Image.{imageOf}
+use Rattle.written.specs.Written.{writtenOf, Writes, roomFor}
+use Rattle.written.proofs.Meaning.{written-fault, refused-in-room, refused-untouched}
+use Rattle.lines.specs.Lines.{refusalLine, longestRefusal}
+use Rattle.lines.proofs.Printed.{fault-prints, written-prints}
+use Rattle.format.specs.Contents.{fullKinds}
+use Rattle.image.specs.Image.{imageOf, cablingIn}
 use Rattle.image.specs.Calls.{linksFault}
 use Rattle.image.proofs.Faults.{cabling-good, links-fine}
 use Rattle.image.proofs.Images.{image-size}
+use Rattle.programs.specs.Builds.{longestBuild, outputOf}
 
--- a full image that is built is no longer than the buffer
-pub built-short : (b : List ℕ) → linksFault b ≡ Fine → length (imageOf true (nodesIn b) (pairsIn b)) ≤ 9308
-built-short b h = image-size true _ _ (cabling-good b (links-fine b h) .0)
+-- where the bytes of a fine verdict find room, a refusal is the verdict
+refused-as : (bytes : List ℕ) (room : ℕ) (v : Verdict) {r : Refusal} → (v ≡ Fine → length bytes ≤ room) → writtenOf v bytes room ≡ NotWritten r → v ≡ Fault r
+refused-as bytes room Fine fits e = refused-in-room bytes room Fine _ (fits refl) e
+refused-as bytes room (Fault q) fits e = let f = written-fault bytes room q in cc
 
--- m bytes at the front of the buffer are what is printed
-pub record Front (v : Verdict) (bytes before after : List ℕ) (m : ℕ) : Type 0 where
-  pub front : take m after ≡ orRefused v bytes
-  pub size : m ≡ length (take m after)
-  pub inside : m ≤ length after
-  pub short : length (take m after) ≤ length before
+-- what build writes of b, and what becomes of the buffer
+abbrev fullImage : List ℕ → List ℕ
+fullImage b = imageOf fullKinds (cablingIn b)
 
-module _ (bytes before after : List ℕ) where
-  pub refused-line : (v : Verdict) (r : Refusal) → (v ≡ Fine → length bytes ≤ length before) → Writes v bytes before (NotWritten r) after
-      → refusalLine r ≡ orRefused v bytes
-  unfolding writtenOf orRefused
-  refused-line Fine r room w =
-      let e : NotWritten r ≡ Bytes (length bytes) = w .answers ∙ rw (le-leb _ _ (room refl), writtenOf) in
-      absurd (let z : _≡_ {A = ℕ} 0 1 = cc in omega arith)
-  refused-line (Fault q) r room w = let e : NotWritten r ≡ NotWritten q = w .answers in ap refusalLine cc
+abbrev pub Built : List ℕ → List ℕ → List ℕ → Written → Type 0
+Built b before after answer = Writes (linksFault b) (fullImage b) before answer after
 
-  pub front-bytes : (v : Verdict) (m : ℕ) → (v ≡ Fine → length bytes ≤ length before) → Writes v bytes before (Bytes m) after → Front v bytes before after m
-  unfolding writtenOf writtenInto orRefused
-  front-bytes Fine m room w =
-      let e : Bytes m ≡ Bytes (length bytes) = w .answers ∙ rw (le-leb _ _ (room refl), writtenOf) in
-      let k : m ≡ length bytes = cc in
-      let a : after ≡ bytes ++ drop (length bytes) before = w .leaves ∙ rw (le-leb _ _ (room refl), writtenInto) in
-      let f : take m after ≡ bytes = ap (take m) a ∙ take-at bytes (drop (length bytes) before) m (sym k) in
-      let s : m ≡ length (take m after) = k ∙ sym (ap length f) in
-      let t = length-take m after in
-      let l = room refl in
-      record { front = f; size = s; inside = omega arith; short = omega arith }
-  front-bytes (Fault q) m room w =
-      let e : Bytes m ≡ NotWritten q = w .answers in
-      absurd (let z : _≡_ {A = ℕ} 0 1 = cc in omega arith)
+-- a full image that is built finds room
+fits : (b before : List ℕ) → longestBuild ≤ length before → linksFault b ≡ Fine → length (fullImage b) ≤ length before
+fits b before room h = le-trans (image-size true (cablingIn b) (cabling-good b (links-fine b h .1) .0)) room
+
+module _ (b : List ℕ) {before after : List ℕ} {x : Written} (room : longestBuild ≤ length before) (w : Built b before after x) where
+  pub built-bytes : {m : ℕ} → x ≡ Bytes m → Writes (roomFor longestBuild before) (outputOf b) before (Bytes m) after
+  unfolding outputOf
+  built-bytes e = written-prints (fullImage b) room (subst (Built b before after) e w)
+
+  pub built-refused : {r : Refusal} {answer : Written} {last : List ℕ} → x ≡ NotWritten r → Writes (roomFor longestRefusal after) (refusalLine r) after answer last
+      → Writes (roomFor longestBuild before) (outputOf b) before answer last
+  unfolding outputOf
+  built-refused {r} {answer} {last} e p =
+      let same = refused-untouched (fullImage b) before after (linksFault b) r (subst (Built b before after) e w) in
+      fault-prints (fullImage b) room (refused-as (fullImage b) (length before) (linksFault b) (fits b before room) (sym (w .answers) ∙ e)) (lit≤ tt)
+      (subst (λ (y : List ℕ). Writes (roomFor longestRefusal y) (refusalLine r) y answer last) same p)

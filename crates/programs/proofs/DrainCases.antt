@@ -1,45 +1,53 @@
--- What is printed, case by case.
-use mathlib.Core.Path.{_≡_, sym, _∙_, ap}
-use mathlib.Core.List.{List}
+-- What drain prints, case by case.
+use mathlib.Core.Path.{_≡_, _∙_, ap}
+use mathlib.Core.List.{List, [], _∷_}
 use Prim.Native.Nat.{ℕ, _+_, _*_, _-_, _≤_, _<_}
 use native.Mathlib.Nat.{le-refl}
 use native.Mathlib.Omega.{arith}
+use lib.Dec.{lit≤}
 use lib.ListN.{length, take, drop}
 use borrow.Author.Tests.{le-leb, lt-leb}
 use Rattle.refusal.specs.declared.Refusal.{Refusal}
 use Rattle.refusal.specs.declared.Refusal.the-variants.{Contents}
-use Rattle.refusal.specs.declared.Verdict.{Verdict}
 use Rattle.refusal.specs.declared.Verdict.the-variants.{Fine, Fault}
+use Rattle.laid.specs.Laid.{Page, page}
+use Rattle.laid.proofs.Pieces.{lays-as}
+use Rattle.written.specs.declared.Written.{Written}
+use Rattle.written.specs.declared.Written.the-variants.{Bytes}
+use Rattle.written.specs.Written.{Writes, roomFor}
 use Rattle.format.specs.Contents.{numberAt}
 use Rattle.format.proofs.Slices.{part-rest}
-use Rattle.lines.specs.Lines.{refusalLine, orRefused}
+use Rattle.lines.specs.Lines.{withLine, refusalLine, longestRefusal}
+use Rattle.lines.proofs.Whole.{lays-line}
+use Rattle.lines.proofs.Printed.{lays-prints, fault-prints}
 use Rattle.machine.specs.declared.Record.{Record}
 use Rattle.start.specs.Start.{startFault}
 use Rattle.draining.specs.declared.Drained.{Drained}
 use Rattle.draining.specs.Drained.{endOf, drainOf}
-use Rattle.programs.specs.Drains.{imageEnd, imageIn, seedIn, listIn, inputFault, drainedLine, outputOf}
+use Rattle.programs.specs.Drains.{imageEnd, imageIn, seedIn, listIn, inputFault, drainedWord, drainedLine, longestDrain, outputOf}
+
+-- the record at the end of the drain that an input asks for
+abbrev pub endIn : List ℕ → Record
+endIn input = endOf (imageIn input) (listIn input) (seedIn input)
 
 module _ (input : List ℕ) where
-  lines-of : (v : Verdict) → inputFault input ≡ v → orRefused v (drainedLine (endOf (imageIn input) (listIn input) (seedIn input))) ≡ outputOf input
+  pub fault-short : length input < imageEnd input + 4 → inputFault input ≡ Fault Contents
+  unfolding inputFault
+  fault-short l = rw (lt-leb _ _ l, inputFault)
+
+  pub fault-start : imageEnd input + 4 ≤ length input → inputFault input ≡ startFault (imageIn input) (listIn input)
+  unfolding inputFault
+  fault-start whole = rw (le-leb _ _ whole, inputFault)
+
+  pub drain-refused : {before after : List ℕ} {r : Refusal} {answer : Written} → longestDrain ≤ length before → inputFault input ≡ Fault r
+      → Writes (roomFor longestRefusal before) (refusalLine r) before answer after → Writes (roomFor longestDrain before) (outputOf input) before answer after
   unfolding outputOf
-  lines-of v e = sym (ap (λ (w : Verdict). orRefused w (drainedLine (endOf (imageIn input) (listIn input) (seedIn input)))) e)
+  drain-refused room e w = fault-prints (drainedLine (endIn input)) room e (lit≤ tt) w
 
-  pub too-short : length input < imageEnd input + 4 → refusalLine Contents ≡ outputOf input
-  unfolding inputFault orRefused
-  too-short l = lines-of (Fault Contents) (rw (lt-leb _ _ l, inputFault))
-
-  module _ (whole : imageEnd input + 4 ≤ length input) where
-    started : inputFault input ≡ startFault (imageIn input) (listIn input)
-    unfolding inputFault
-    started = rw (le-leb _ _ whole, inputFault)
-
-    pub not-started : (r : Refusal) → startFault (imageIn input) (listIn input) ≡ Fault r → refusalLine r ≡ outputOf input
-    unfolding orRefused
-    not-started r e = lines-of (Fault r) (started ∙ e)
-
-    pub all-drained : startFault (imageIn input) (listIn input) ≡ Fine → drainedLine (endOf (imageIn input) (listIn input) (seedIn input)) ≡ outputOf input
-    unfolding orRefused
-    all-drained e = lines-of Fine (started ∙ e)
+  pub drain-prints : {before : List ℕ} {p : Page} {r : Record} → longestDrain ≤ length before → inputFault input ≡ Fine → r ≡ endIn input
+      → p ≡ withLine (page before 0) drainedWord (r .messages ∷ r .moves ∷ []) → Writes (roomFor longestDrain before) (outputOf input) before (Bytes (p .at)) (p .bytes)
+  unfolding outputOf
+  drain-prints room v e l = lays-prints (drainedLine (endIn input)) room v (lays-as (lays-line drainedWord _ l room) (ap drainedLine e))
 
 -- a drain of the parts of the input
 pub parts-drained : (input : List ℕ) (old : Record) {x : Drained} {n seed : ℕ} → n ≡ numberAt input 0 → seed ≡ numberAt input (2 + n) + 65536 * numberAt input (2 + n + 2)

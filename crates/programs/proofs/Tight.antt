@@ -1,24 +1,24 @@
--- What is written is determined: any two things that an `output` may answer hold the same bytes, which are all that `say` writes.
-use mathlib.Core.Path.{_≡_, sym, _∙_}
+-- What is written is determined: any two outcomes that an `output` may have are equal, answer and buffer, and of the buffer `say` writes the bytes that are answered.
+use mathlib.Core.Path.{_≡_}
 use mathlib.Core.List.{List}
 use Prim.Native.Nat.{ℕ}
-use Rattle.grown.specs.declared.Grown.{Grown}
-use Rattle.grown.specs.Grown.{content}
-use Rattle.grown.specs.Holds.{Holds}
+use Rattle.written.specs.declared.Written.{Written}
+use Rattle.written.specs.Written.{Writes, roomFor}
+use Rattle.written.proofs.Tight.{writes-unique}
 use Rattle.programs.specs.Builds as builds
 use Rattle.programs.specs.Shows as shows
 use Rattle.programs.specs.Drains as drains
 
-module _ {g h : Grown} where
-  alike : {bytes : List ℕ} {k : ℕ} → Holds g bytes k → Holds h bytes k → (g .len ≡ h .len) × (content g ≡ content h)
-  alike p q = (p .len-is ∙ sym (q .len-is), p .content-is ∙ sym (q .content-is))
+-- what an output's promise says, of a program that may write so much
+abbrev Printing : ℕ → List ℕ → List ℕ → Written → List ℕ → Type 0
+Printing most bytes before answer after = Writes (roomFor most before) bytes before answer after
 
-  module _ (input : List ℕ) where
-    pub build-determined : Holds g (builds.outputOf input) 9308 → Holds h (builds.outputOf input) 9308 → (g .len ≡ h .len) × (content g ≡ content h)
-    build-determined = alike
+module _ (input before : List ℕ) {r s : Written} {l m : List ℕ} where
+  pub build-determined : Printing builds.longestBuild (builds.outputOf input) before r l → Printing builds.longestBuild (builds.outputOf input) before s m → (r ≡ s) × (l ≡ m)
+  build-determined = writes-unique
 
-    pub show-determined : Holds g (shows.outputOf input) 16927 → Holds h (shows.outputOf input) 16927 → (g .len ≡ h .len) × (content g ≡ content h)
-    show-determined = alike
+  pub show-determined : Printing shows.longestShow (shows.outputOf input) before r l → Printing shows.longestShow (shows.outputOf input) before s m → (r ≡ s) × (l ≡ m)
+  show-determined = writes-unique
 
-    pub drain-determined : Holds g (drains.outputOf input) 52 → Holds h (drains.outputOf input) 52 → (g .len ≡ h .len) × (content g ≡ content h)
-    drain-determined = alike
+  pub drain-determined : Printing drains.longestDrain (drains.outputOf input) before r l → Printing drains.longestDrain (drains.outputOf input) before s m → (r ≡ s) × (l ≡ m)
+  drain-determined = writes-unique

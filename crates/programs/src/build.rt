@@ -1,17 +1,22 @@
 // Build: of a links image its full image, or the line of its refusal.
-ghost use Rattle.grown.specs.Holds.{Holds};
-ghost use Rattle.programs.specs.Builds.{outputOf};
-use grown::Grown;
+ghost use Rattle.written.specs.Written.{Writes, roomFor};
+ghost use Rattle.programs.specs.Builds.{longestBuild, outputOf};
+use refusal::Refusal;
 use written::Written;
 
-// What is written for this input.
-pub fn output(input: &[u8]) -> Grown
-    ensures { λ r. ⌜ Holds r (outputOf (now (input .entry))) 9308 ⌝ }
+// How much it writes at the most.
+pub const LONGEST: usize = 9308;
+
+// What is written for this input, or 9 and nothing written where the longest finds no room.
+pub fn output(input: &[u8], out: &mut [u8]) -> Written
+    ensures { λ r. ⌜ Writes (roomFor longestBuild (now (out .entry))) (outputOf (now (input .entry))) (now (out .entry)) r (now (out .exit)) ⌝ }
 {
-    let mut buffer = [0u8; 9308];
-    let built = image::build(input, &mut buffer);
+    if out.len() < LONGEST {
+        return Written::NotWritten(Refusal::Short);
+    }
+    let built = image::build(input, out);
     match built {
-        Written::NotWritten(r) => lines::refusal_line(r),
-        Written::Bytes(m) => grown::append(grown::empty(), &buffer[..m]),
+        Written::NotWritten(r) => lines::refusal_line(r, out),
+        Written::Bytes(m) => Written::Bytes(m),
     }
 }

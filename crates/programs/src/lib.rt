@@ -3,18 +3,13 @@ pub mod build; // build.rt: the full image of a links image
 pub mod drain; // drain.rt: the line of a drain's end
 pub mod show; // show.rt: the fabric's line and a line for each node
 
-use grown::Grown;
-use grown::ROOM;
+use written::Written;
 
-// Writes the first bytes.
-fn write_front(bytes: [u8; ROOM], len: usize) {
-    if len <= ROOM {
-        io::write_all(1, &bytes[..len]);
+// Writes to standard output what stands at the front of `out`; nothing where nothing was written.
+pub fn say(written: Written, out: &[u8]) {
+    if let Written::Bytes(m) = written {
+        if m <= out.len() {
+            io::write_all(1, &out[..m]);
+        }
     }
-}
-
-// Writes what is held to standard output.
-pub fn say(g: Grown) {
-    let bytes = g.bytes;
-    write_front(bytes, g.len);
 }

@@ -1,66 +1,91 @@
 // Show: of an image, links only or full, its fabric's line and a line for each node, or the line of its refusal.
 ghost use mathlib.Core.Path.{_≡_};
-ghost use mathlib.Core.List.{[], _∷_};
-ghost use Rattle.cabling.specs.Cabling.{Good};
-ghost use Rattle.grown.specs.Holds.{Holds};
+ghost use mathlib.Core.List.{_∷_};
+ghost use Prim.Native.Nat.{_≤_};
+ghost use lib.ListN.{length};
+ghost use Rattle.cabling.specs.Cabling.{cabled, Good};
+ghost use Rattle.fabric.specs.Fabric.{fabricOf};
+ghost use Rattle.laid.specs.Laid.{page};
+ghost use Rattle.laid.specs.Lays.{Lays};
 ghost use Rattle.text.specs.Text.{decimalOf};
-ghost use Rattle.lines.specs.Lines.{lineOf, withLine};
-ghost use Rattle.programs.specs.Shows.{fabricWord, reportOf, outputOf};
-use grown::Grown;
+ghost use Rattle.lines.specs.Lines.{withLine};
+ghost use Rattle.written.specs.Written.{Writes, roomFor};
+ghost use Rattle.programs.specs.Shows.{fabricWord, fabricFields, reportOf, longestShow, outputOf};
+use refusal::Refusal;
 use refusal::Verdict;
+use written::Written;
+
+// How much it writes at the most.
+pub const LONGEST: usize = 16927;
 
 // The first line.
-fn fabric_line(n: usize, m: usize, t: usize, w: usize) -> Grown
-    ensures { λ r. ⌜ Holds r (lineOf fabricWord (n ∷ m ∷ t ∷ w ∷ [])) 95 ⌝ }
+fn fabric_line(n: usize, labels: &[u8], pairs: &[u8], out: &mut [u8]) -> usize
+    requires { ⌜ Good (cabled n (now pairs)) × (now labels ≡ fabricOf (cabled n (now pairs)) .labels) ⌝ }
+    ensures { λ r. ⌜ page (now (out .exit)) r ≡ withLine (page (now (out .entry)) 0) fabricWord (fabricFields (cabled n (now (pairs .entry)))) ⌝ }
 {
-    let word = b"fabric";
-    let a = grown::append(grown::empty(), word);
-    let b = lines::field(a, n);
-    let c = lines::field(b, m);
-    let d = lines::field(c, t);
-    let e = lines::field(d, w);
-    grown::byte(e, 10)
+    let t = network::table_of(pairs);
+    let total = turns::total(&t);
+    let prohibited = turns::prohibited(&t, labels);
+    let numbers = [n, pairs.len() / 2, total, prohibited];
+    lines::line(out, 0, b"fabric", &numbers)
 }
 
 // A node's line behind the others.
-fn node_line(g: Grown, v: usize, label: usize, row: &[u8]) -> Grown
-    ensures { λ r. ⌜ r ≡ withLine g (decimalOf v) (label ∷ now (row .entry)) ⌝ }
+fn node_line(out: &mut [u8], at: usize, v: usize, label: usize, row: &[u8]) -> usize
+    ensures { λ r. ⌜ page (now (out .exit)) r ≡ withLine (page (now (out .entry)) at) (decimalOf v) (label ∷ now (row .entry)) ⌝ }
 {
-    let a = text::number(g, v);
-    let b = lines::field(a, label);
-    let c = lines::byte_fields(b, row);
-    grown::byte(c, 10)
+    let a = text::number(out, at, v);
+    let b = lines::field(out, a, label);
+    let c = lines::byte_fields(out, b, row);
+    laid::byte(out, c, 10)
 }
 
-// What is printed of a cabling.
-fn report(n: usize, pairs: &[u8]) -> Grown
-    requires { ⌜ Good n (now pairs) ⌝ }
-    ensures { λ r. ⌜ Holds r (reportOf n (now (pairs .entry))) 16927 ⌝ }
+// What is printed of a fabric.
+fn report<'a>(
+    n: usize,
+    labels: &'a [u8],
+    free: &'a [u8],
+    falling: &'a [u8],
+    pairs: &[u8],
+    out: &mut [u8],
+) -> usize
+    requires { ⌜ Good (cabled n (now pairs)) × (record { nodes = n; labels = now labels; free = now free; falling = now falling } ≡ fabricOf (cabled n (now pairs))) × (longestShow ≤ length (now out)) ⌝ }
+    ensures { λ r. ⌜ Lays (now (out .entry)) (page (now (out .exit)) r) (reportOf (cabled n (now (pairs .entry)))) ⌝ }
 {
-    let t = network::table_of(pairs);
-    let labels = labels::labels(t, n);
-    let tables = rows::tables_of(&t, &labels, n);
-    let free = tables.free;
-    let falling = tables.falling;
     let size = n * n;
-    let total = turns::total(&t);
-    let prohibited = turns::prohibited(&t, &labels);
-    let mut all = fabric_line(n, pairs.len() / 2, total, prohibited);
+    let mut at = fabric_line(n, labels, pairs, out);
     for v in 0..n {
-        let row = rows::row(&free[..size], &falling[..size], n, v, 0);
-        let more = node_line(all, v, network::byte_at(&labels, v), row);
-        all = more;
+        let row = rows::row(
+            written::front(free, size),
+            written::front(falling, size),
+            n,
+            v,
+            0,
+        );
+        at = node_line(out, at, v, network::byte_at(labels, v), row);
     }
-    all
+    at
 }
 
-// What is printed for this input.
-pub fn output(input: &[u8]) -> Grown
-    ensures { λ r. ⌜ Holds r (outputOf (now (input .entry))) 16927 ⌝ }
+// What is printed for this input, or 9 and nothing printed where the longest finds no room.
+pub fn output(input: &[u8], out: &mut [u8]) -> Written
+    ensures { λ r. ⌜ Writes (roomFor longestShow (now (out .entry))) (outputOf (now (input .entry))) (now (out .entry)) r (now (out .exit)) ⌝ }
 {
-    let checked = image::verdict(input);
-    match checked {
-        Verdict::Fault(r) => lines::refusal_line(r),
-        Verdict::Fine => report(format::nodes_in(input), format::pairs_in(input)),
+    if out.len() < LONGEST {
+        return Written::NotWritten(Refusal::Short);
     }
+    let opened = image::open(input);
+    let verdict = opened.verdict;
+    if let Verdict::Fault(r) = verdict {
+        return lines::refusal_line(r, out);
+    }
+    let n = opened.fabric.nodes;
+    Written::Bytes(report(
+        n,
+        &opened.fabric.labels,
+        &opened.fabric.free,
+        &opened.fabric.falling,
+        format::pairs_in(input),
+        out,
+    ))
 }

@@ -1,76 +1,97 @@
--- The loop along the entries: what is held, and the nodes that are still to come behind it, are the whole route.
-use mathlib.Core.Path.{_≡_, refl, sym, _∙_, ap}
-use mathlib.Core.Bool.{Bool, true}
+-- The loop along the entries: what is laid, and the nodes that are still to come behind it, are the whole route.
+use mathlib.Core.Path.{_≡_, refl, sym, _∙_}
+use mathlib.Core.Bool.{true, false}
 use mathlib.Core.List.{List, [], _∷_, _++_, append-assoc, append-nil}
-use Prim.Native.Nat.{ℕ, zero, suc, _+_, _≤_, _<_}
-use native.Mathlib.Nat.{le-refl}
+use Prim.Native.Nat.{ℕ, zero, suc, _+_, _-_, _*_, _<_}
+use native.Mathlib.Numerals.{add-one}
+use native.Mathlib.Nat.{sub-zero}
 use native.Mathlib.Omega.{arith}
-use lib.Dec.{lit≤}
+use lib.ListN.{length, getD, length-append}
+use Rattle.finite.specs.Truth.{below}
+use Rattle.finite.proofs.Truth.{and-true, and-false}
+use Rattle.rule.specs.Labels.{labelIn}
+use Rattle.lawful.specs.Turn.{rises}
 use Rattle.lawful.specs.Entry.{after, follow}
 use Rattle.lawful.proofs.Routes.{follow-here, follow-there}
-use Rattle.grown.specs.declared.Grown.{Grown}
-use Rattle.grown.specs.Grown.{roomSize, content, emptyOf, appended}
-use Rattle.grown.specs.Holds.{Holds}
-use Rattle.grown.proofs.Behind.{holds-none, holds-more, holds-as}
+use Rattle.fabric.specs.declared.Fabric.{Fabric}
+use Rattle.laid.specs.Laid.{Page, page, behind}
+use Rattle.laid.specs.Lays.{Lays}
+use Rattle.laid.proofs.Pieces.{lays-none, lays-more, lays-as}
+use Rattle.route.specs.declared.Place.{Place}
+use Rattle.route.specs.Follow.{stored, anywhere, hopOf, followed}
 
-module _ (edge : ℕ → ℕ → Bool) (label : ℕ → ℕ) (next : Bool → ℕ → ℕ) (t : ℕ) where
-  -- after k hops the message is at v, in the class
-  pub record Following (whole : List ℕ) (hops : ℕ) (g : Grown) (class : Bool) (v k : ℕ) : Type 0 where
-    pub held : Holds g (content g) (1 + k)
-    pub left : ℕ
-    pub sum : left + k ≡ hops
-    pub rest : content g ++ follow edge label next t left class v ≡ whole
+-- ---- one hop in either class
 
-  held-self : {g : Grown} {s : List ℕ} {k : ℕ} → Holds g s k → Holds g (content g) k
-  held-self h = holds-as _ h (sym (h .content-is)) (le-refl _)
+module _ (f : Fabric) (t : ℕ) (p : Place) {u : ℕ} where
+  pub hop-free : {a b : ℕ} → p .free ≡ true → u ≡ getD (f .free) (p .node * f .nodes + t) 0 → a ≡ labelIn (f .labels) (p .node) → b ≡ labelIn (f .labels) u
+      → record { node = u; free = below a b } ≡ hopOf f t p
+  unfolding hopOf stored after rises
+  hop-free e eu ea eb = simp (ea, eb, eu, e, and-true)
 
-  -- the source alone
-  pub following-none : {e g : Grown} {s : ℕ} (hops : ℕ) → e ≡ emptyOf → g ≡ appended e (s ∷ []) → Following (s ∷ follow edge label next t hops true s) hops g true s 0
-  following-none {s = s} hops p q =
-      let h = holds-more (s ∷ []) 1 (holds-none p) q (le-refl 1) (lit≤ tt) in
-      record {
-        held = held-self h;
-        left = hops;
-        sum = omega arith;
-        rest = ap (λ (l : List ℕ). l ++ follow edge label next t hops true s) (h .content-is);
-      }
+  pub hop-falling : p .free ≡ false → u ≡ getD (f .falling) (p .node * f .nodes + t) 0 → record { node = u; free = false } ≡ hopOf f t p
+  unfolding hopOf stored after
+  hop-falling e eu = simp (eu, e, and-false)
 
-  -- one hop more
-  pub following-more : {whole : List ℕ} {hops : ℕ} {g r : Grown} {class d : Bool} {v k u : ℕ} → Following whole hops g class v k → (v ≡ t → ⊥) → k < hops
-      → hops + 1 ≤ roomSize → u ≡ next class v → d ≡ after edge label class v u → r ≡ appended g (u ∷ []) → Following whole hops r d u (k + 1)
-  following-more {whole} {hops} {g} {r} {class} {d} {v} {k} {u} f away l room eu ed er = go (f .left) (f .sum) (f .rest)
-    where
-      held : Holds r (content g ++ (u ∷ [])) (1 + k + 1)
-      held = holds-more (u ∷ []) 1 (f .held) er (le-refl 1) (omega arith)
+-- ---- hop by hop
 
-      ahead : (j : ℕ) → u ∷ follow edge label next t j d u ≡ follow edge label next t (suc j) class v
-      ahead j =
-          ap (λ (b : Bool). u ∷ follow edge label next t j b u) ed ∙ ap (λ (x : ℕ). x ∷ follow edge label next t j (after edge label class v x) x) eu
-          ∙ sym (follow-there edge label next t j class v away)
+module _ (f : Fabric) (s t : ℕ) where
+  -- the nodes behind a place, j at the most; and from it on, j at the most
+  abbrev behindOf : ℕ → Place → List ℕ
+  behindOf j p = follow anywhere (labelIn (f .labels)) (stored f t) t j (p .free) (p .node)
 
-      go : (left : ℕ) → left + k ≡ hops → content g ++ follow edge label next t left class v ≡ whole → Following whole hops r d u (k + 1)
-      go zero e p = absurd (omega arith)
-      go (suc j) e p = record {
-        held = holds-as _ (held-self held) refl (omega arith);
-        left = j;
-        sum = omega arith;
-        rest = ap (λ (x : List ℕ). x ++ follow edge label next t j d u) (held .content-is)
-            ∙ append-assoc (content g) (u ∷ []) (follow edge label next t j d u)
-            ∙ ap (λ (x : List ℕ). content g ++ x) (ahead j)
-            ∙ p;
-      }
+  abbrev fromOf : ℕ → Place → List ℕ
+  fromOf zero p = []
+  fromOf (suc j) p = p .node ∷ behindOf j p
 
-  -- at the destination nothing is to come, and so after the last hop
-  pub following-there : {whole : List ℕ} {hops : ℕ} {g : Grown} {class : Bool} {v k : ℕ} (j : ℕ) → Following whole hops g class v k → v ≡ t → 1 + k ≤ j → Holds g whole j
-  following-there {g = g} {class = class} {v} j f e l =
-      holds-as j (f .held)
-      (sym (append-nil (content g)) ∙ ap (λ (x : List ℕ). content g ++ x) (sym (follow-here edge label next t (f .left) class) ∙ ap (follow edge label next t (f .left) class) (sym e))
-      ∙ f .rest) l
+  behind-there : (j : ℕ) (p : Place) → p .node ≡ t → behindOf j p ≡ []
+  behind-there j p e = rw e (follow-here anywhere (labelIn (f .labels)) (stored f t) t j (p .free))
 
-  pub following-all : {whole : List ℕ} {hops : ℕ} {g : Grown} {class : Bool} {v k : ℕ} (j : ℕ) → Following whole hops g class v k → k ≡ hops → 1 + k ≤ j → Holds g whole j
-  unfolding follow
-  following-all {whole} {hops} {g} {class} {v} {k} j f e l = go (f .left) (f .sum) (f .rest)
-    where
-      go : (left : ℕ) → left + k ≡ hops → content g ++ follow edge label next t left class v ≡ whole → Holds g whole j
-      go zero p q = holds-as j (f .held) (sym (append-nil (content g)) ∙ q) l
-      go (suc i) p q = absurd (omega arith)
+  behind-hop : (j : ℕ) (p : Place) {o : Place} → (p .node ≡ t → ⊥) → o ≡ hopOf f t p → behindOf j p ≡ fromOf j o
+  unfolding follow hopOf
+  behind-hop zero p away e = refl
+  behind-hop (suc j) p away e = rw e (follow-there anywhere (labelIn (f .labels)) (stored f t) t j (p .free) (p .node) away)
+
+  -- k nodes are laid in the buffer b, and those from the place p on are to come
+  pub record Following (b : List ℕ) (q : Page) (p : Place) (k : ℕ) : Type 0 where
+    pub done : List ℕ
+    pub lays : Lays b q done
+    pub size : length done ≡ k
+    pub rest : done ++ fromOf (f .nodes + f .nodes + 1 - k) p ≡ followed f s t
+
+  -- none at first
+  pub following-none : (b : List ℕ) → Following b (page b 0) (record { node = s; free = true }) 0
+  unfolding followed
+  following-none b = record { done = []; lays = lays-none b; size = refl; rest = rw (sub-zero, add-one) }
+
+  -- after the last hop none is to come
+  pub following-all : {b : List ℕ} {q : Page} {p : Place} {k : ℕ} → Following b q p k → f .nodes + f .nodes < k → Lays b q (followed f s t)
+  following-all {k = k} w l =
+      let z : f .nodes + f .nodes + 1 - k ≡ 0 = omega arith in lays-as (w .lays) (sym (append-nil (w .done)) ∙ rw z at (w .rest))
+
+  module _ {b : List ℕ} {q r : Page} {p : Place} {k : ℕ} (w : Following b q p k) (l : k < f .nodes + f .nodes + 1) (room : f .nodes + f .nodes < length b)
+      (e : r ≡ behind q (p .node ∷ [])) where
+    abbrev with : List ℕ
+    with = w .done ++ (p .node ∷ [])
+
+    with-lays : Lays b r with
+    with-lays = let size = w .size in lays-more (p .node ∷ []) (w .lays) e (omega arith)
+
+    with-rest : with ++ behindOf (f .nodes + f .nodes - k) p ≡ followed f s t
+    with-rest =
+        let j : f .nodes + f .nodes + 1 - k ≡ suc (f .nodes + f .nodes - k) = omega arith in append-assoc (w .done) (p .node ∷ []) _ ∙ rw j at (w .rest)
+
+    -- at the destination no node is to come behind its own
+    pub following-there : p .node ≡ t → Lays b r (followed f s t)
+    following-there h = lays-as with-lays (sym (append-nil with) ∙ rw (behind-there (f .nodes + f .nodes - k) p h) at with-rest)
+
+    -- elsewhere those from the next place on are
+    pub following-more : {o : Place} → (p .node ≡ t → ⊥) → o ≡ hopOf f t p → Following b r o (k + 1)
+    following-more away h =
+        let size = w .size in
+        let j : f .nodes + f .nodes + 1 - (k + 1) ≡ f .nodes + f .nodes - k = omega arith in
+        record {
+          done = with;
+          lays = with-lays;
+          size = length-append (w .done) (p .node ∷ []) ∙ omega arith;
+          rest = rw (j, ← behind-hop (f .nodes + f .nodes - k) p away h) with-rest;
+        }

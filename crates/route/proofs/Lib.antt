@@ -1,6 +1,5 @@
-pub mod Cases
-pub mod Hop
 pub mod Following
 pub mod Cabled
+pub mod Cases
 pub mod Meaning
 pub mod Tight

@@ -4,7 +4,7 @@ use mathlib.Core.List.{List}
 use Prim.Native.Nat.{ℕ}
 use Rattle.written.specs.declared.Written.{Written}
 use Rattle.written.specs.Written.{Writes}
-use Rattle.image.proofs.Tight.{writes-unique}
+use Rattle.written.proofs.Tight.{writes-unique}
 use Rattle.route.specs.Route.{routeFault, routeBytes}
 
 pub route-tight : (b : List ℕ) (s t : ℕ) {before : List ℕ} {x y : Written} {l m : List ℕ}

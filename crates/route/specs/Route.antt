@@ -3,14 +3,12 @@ use mathlib.Core.Bool.{true, false}
 use mathlib.Core.List.{List, _∷_}
 use Prim.Native.Nat.{ℕ}
 use Rattle.finite.specs.Truth.{_&_, below}
-use Rattle.nodes.specs.Limits.{maxNodes}
 use Rattle.refusal.specs.declared.Refusal.the-variants.{Unknown}
 use Rattle.refusal.specs.declared.Verdict.{Verdict}
 use Rattle.refusal.specs.declared.Verdict.the-variants.{Fine, Fault}
-use Rattle.cabling.specs.Cabling.{links}
-use Rattle.lawful.specs.Entry.{routeOf}
-use Rattle.format.specs.Contents.{nodesIn, pairsIn}
-use Rattle.image.specs.Image.{labelOf}
+use Rattle.fabric.specs.Fabric.{routeFor}
+use Rattle.format.specs.Contents.{nodesIn}
+use Rattle.image.specs.Image.{cablingIn}
 use Rattle.image.specs.Calls.{andThen, imageFault}
 
 -- 10: "Route: a node ≥ N", at place 0
@@ -23,4 +21,4 @@ routeFault b s t = andThen (imageFault b) (endsFault b s t)
 
 -- and "writes hops + 1 node numbers, source first"
 abbrev pub routeBytes : List ℕ → ℕ → ℕ → List ℕ
-routeBytes b s t = s ∷ routeOf maxNodes (links (pairsIn b)) (labelOf (nodesIn b) (pairsIn b)) s t
+routeBytes b s t = s ∷ routeFor (cablingIn b) s t

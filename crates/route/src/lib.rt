@@ -1,100 +1,90 @@
-// The route call: under read's checks of the image, the nodes from a source to a destination, along the entries of the two tables.
+// The route call: under read's checks of the image, the nodes from a source to a destination, along the entries of its fabric.
 ghost use mathlib.Core.Path.{_≡_};
-ghost use Prim.Native.Nat.{_≤_, _<_};
-ghost use mathlib.Core.List.{_∷_};
+ghost use Prim.Native.Nat.{_+_, _≤_, _<_};
+ghost use lib.ListN.{length};
 ghost use Rattle.nodes.specs.Limits.{maxNodes};
-ghost use Rattle.cabling.specs.Cabling.{Good, links};
-ghost use Rattle.rule.specs.Labels.{labelIn};
-ghost use Rattle.lawful.specs.Entry.{after, routeOf};
-ghost use Rattle.grown.specs.Holds.{Holds};
+ghost use Rattle.laid.specs.Laid.{page};
+ghost use Rattle.laid.specs.Lays.{Lays};
 ghost use Rattle.written.specs.Written.{Writes};
-ghost use Rattle.image.specs.Image.{labelOf};
-ghost use Rattle.route.specs.Follow.{anywhere, stored, followed};
+ghost use Rattle.route.specs.Follow.{hopOf, followed};
 ghost use Rattle.route.specs.Route.{routeFault, routeBytes};
-use grown::Grown;
+use fabric::Fabric;
 use nodes::MAX_NODES;
 use refusal::Refusal;
 use refusal::Verdict;
 use written::Written;
 
-// A route is followed for so many hops at the most; it has fewer than N.
-const MOST_HOPS: usize = MAX_NODES + MAX_NODES;
+// A route is followed for 2 N hops at the most, and has one node more than hops.
+const ROOM: usize = 2 * MAX_NODES + 1;
 
-// The node after v on the way to t, from the table of the message's class: true while it is free.
-fn next(free: &[u8], falling: &[u8], n: usize, t: u8, class: bool, v: u8) -> u8
-    requires { ⌜ n ≤ maxNodes ⌝ }
-    ensures { λ r. ⌜ r ≡ stored (now (free .entry)) (now (falling .entry)) n t class v ⌝ }
-{
-    let at = (v as usize) * n + (t as usize);
-    if class {
-        network::byte_at(free, at) as u8
-    } else {
-        network::byte_at(falling, at) as u8
-    }
+// Where a message is, and whether it is still free.
+struct Place {
+    node: u8,
+    free: bool,
 }
 
-// Is the message free after a hop from v to u?
-fn stays_free(labels: &[u8], class: bool, v: u8, u: u8) -> bool
-    ensures { λ r. ⌜ r ≡ after anywhere (labelIn (now (labels .entry))) class v u ⌝ }
+// One hop along the entry of the message's class; it stays free where it was and the hop rises.
+fn hop(labels: &[u8], free: &[u8], falling: &[u8], n: usize, t: u8, p: Place) -> Place
+    requires { ⌜ n ≤ maxNodes ⌝ }
+    ensures { λ r. ⌜ r ≡ hopOf (record { nodes = n; labels = now (labels .entry); free = now (free .entry); falling = now (falling .entry) }) t p ⌝ }
 {
-    if class {
-        network::byte_at(labels, v as usize) < network::byte_at(labels, u as usize)
-    } else {
-        false
+    let v = p.node as usize;
+    let at = v * n + (t as usize);
+    if p.free {
+        let u = network::byte_at(free, at);
+        return Place {
+            node: u as u8,
+            free: network::byte_at(labels, v) < network::byte_at(labels, u),
+        };
+    }
+    Place {
+        node: network::byte_at(falling, at) as u8,
+        free: false,
     }
 }
 
 // The source, and the nodes that the entries lead over.
-fn followed(labels: &[u8], free: &[u8], falling: &[u8], n: usize, s: u8, t: u8) -> Grown
-    requires { ⌜ n ≤ maxNodes ⌝ }
-    ensures { λ r. ⌜ Holds r (followed (now (labels .entry)) (now (free .entry)) (now (falling .entry)) n s t) 129 ⌝ }
+fn followed(f: Fabric, s: u8, t: u8, buffer: &mut [u8]) -> usize
+    requires { ⌜ (f .nodes ≤ maxNodes) × (f .nodes + f .nodes < length (now buffer)) ⌝ }
+    ensures { λ r. ⌜ Lays (now (buffer .entry)) (page (now (buffer .exit)) r) (followed f s t) ⌝ }
 {
-    let mut g = grown::byte(grown::empty(), s);
-    let mut v = s;
-    let mut class = true;
-    for k in 0..MOST_HOPS {
-        if v == t {
-            return g;
+    let n = f.nodes;
+    let labels = f.labels;
+    let free = f.free;
+    let falling = f.falling;
+    let mut p = Place {
+        node: s,
+        free: true,
+    };
+    let mut at = 0;
+    for k in 0..n + n + 1 {
+        at = laid::byte(buffer, at, p.node);
+        if p.node == t {
+            return at;
         }
-        let u = next(free, falling, n, t, class, v);
-        class = stays_free(labels, class, v, u);
-        let more = grown::byte(g, u);
-        g = more;
-        v = u;
+        let q = hop(&labels, &free, &falling, n, t, p);
+        p = q;
     }
-    g
-}
-
-// The bytes of a route between two nodes of a good cabling.
-fn route_bytes(n: usize, pairs: &[u8], s: usize, t: usize) -> Grown
-    requires { ⌜ Good n (now pairs) × (s < n) × (t < n) ⌝ }
-    ensures { λ r. ⌜ Holds r (s ∷ routeOf maxNodes (links (now (pairs .entry))) (labelOf n (now (pairs .entry))) s t) 129 ⌝ }
-{
-    let table = network::table_of(pairs);
-    let labels = labels::labels(table, n);
-    let tables = rows::tables_of(&table, &labels, n);
-    let free = tables.free;
-    let falling = tables.falling;
-    followed(&labels, &free, &falling, n, s as u8, t as u8)
+    at
 }
 
 // Writes the nodes of the route from a source to a destination, source first, under the checks 1 to 8, 10 and 9.
 pub fn route(image: &[u8], source: usize, destination: usize, buffer: &mut [u8]) -> Written
     ensures { λ r. ⌜ Writes (routeFault (now (image .entry)) source destination) (routeBytes (now (image .entry)) source destination) (now (buffer .entry)) r (now (buffer .exit)) ⌝ }
 {
-    let checked = image::verdict(image);
-    if let Verdict::Fault(r) = checked {
+    let opened = image::open(image);
+    let verdict = opened.verdict;
+    if let Verdict::Fault(r) = verdict {
         return Written::NotWritten(r);
     }
-    let n = format::nodes_in(image);
-    if n <= source {
+    let f = opened.fabric;
+    if f.nodes <= source {
         return Written::NotWritten(Refusal::Unknown(0));
     }
-    if n <= destination {
+    if f.nodes <= destination {
         return Written::NotWritten(Refusal::Unknown(0));
     }
-    let g = route_bytes(n, format::pairs_in(image), source, destination);
-    let bytes = g.bytes;
-    let len = g.len;
-    written::place(&bytes[..len], buffer)
+    let mut nodes = [0u8; ROOM];
+    let len = followed(f, source as u8, destination as u8, &mut nodes);
+    written::place(&nodes[..len], buffer)
 }

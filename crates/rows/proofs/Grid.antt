@@ -1,18 +1,18 @@
 -- A square table in one list: cell v * m + t stands in row v and column t. A column is placed cell by cell, and the columns together make the table.
 use mathlib.Core.Path.{_≡_, refl, sym, _∙_, ap, ap₂}
 use mathlib.Core.Bool.{Bool, true, false}
-use mathlib.Core.List.{List, [], _∷_, _++_}
+use mathlib.Core.List.{List}
 use Prim.Native.Nat.{ℕ, zero, suc, _+_, _-_, _*_, _/_, _%_, _≤_, _<_, zero-le}
 use native.Mathlib.Nat.{le-refl, not-suc-le-zero, mul-add-div-right, mul-add-mod-self-right, mod-eq-of-lt, mod-lt, div-eq-of-lt, div-add-mod', div-lt-iff-lt-mul, mul-le-mul, add-zero}
 use native.Mathlib.Omega.{arith}
-use lib.ListN.{length, getD, set, take, replicate, length-set, length-append, length-replicate}
-use lib.Seq.{take-append-seam, getD-set-same, getD-set-other, ext-getD}
+use lib.ListN.{length, getD, set, replicate, length-set, length-replicate}
+use lib.Seq.{getD-set-same, getD-set-other}
 use Rattle.finite.specs.Truth.{_&_, same, below}
-use Rattle.finite.specs.Lists.{tabulate}
+use Rattle.finite.specs.Lists.{tabulate, padded}
 use Rattle.finite.proofs.Truth.{bcase, iff, both, and-l, and-r, and-true, and-false, true-and, false-and, same-eq, same-ne, same-refl, below-lt, below-le, lt-below, le-below}
-use Rattle.finite.proofs.Lists.{getD-zeros, tabulate-length, tabulate-at, tabulate-out, tabulate-ext}
+use Rattle.finite.proofs.Lists.{getD-zeros, tabulate-length, tabulate-at, tabulate-out, tabulate-ext, padded-ext}
 use Rattle.nodes.specs.Limits.{maxNodes}
-use Rattle.rows.specs.Tables.{tableSize, padded}
+use Rattle.rows.specs.Tables.{tableSize}
 use Rattle.rows.specs.Steps.{pick, placedOf}
 
 -- ---- where a cell stands
@@ -85,26 +85,6 @@ pub placing-all : {m d : ℕ} {column table next : List ℕ} {v : ℕ} → Placi
 unfolding placedOf
 placing-all {next = next} h e = tabulate-ext tableSize _ 0 next (h .size) (λ i l. rw e at (h .cells i l))
 
--- ---- zeros behind a list
-
-zeros-behind : (l : List ℕ) (k i : ℕ) → getD (l ++ replicate k 0) i 0 ≡ getD l i 0
-zeros-behind [] k i = getD-zeros k i
-zeros-behind (x ∷ l) k zero = refl
-zeros-behind (x ∷ l) k (suc i) = zeros-behind l k i
-
-pub padded-at : (l : List ℕ) (i : ℕ) → getD (padded l) i 0 ≡ getD l i 0
-unfolding padded
-padded-at l i = zeros-behind l (tableSize - length l) i
-
-pub padded-length : (l : List ℕ) → length l ≤ tableSize → length (padded l) ≡ tableSize
-unfolding padded
-padded-length l h = simp (length-append, length-replicate) (omega arith)
-
--- the list is the front of what is padded
-pub padded-front : (l : List ℕ) → take (length l) (padded l) ≡ l
-unfolding padded
-padded-front l = take-append-seam l (replicate (tableSize - length l) 0)
-
 -- ---- column by column
 
 -- the new column, where the cell stands in it; else what the first columns hold
@@ -152,13 +132,12 @@ module _ (m : ℕ) (f : ℕ → ℕ → ℕ) where
       let pos = square-pos m i l in
       both (lt-below (mod-lt i pos)) (lt-below (div-lt-iff-lt-mul {k = m} {x = i} {y = m} pos .1 l)))
 
-  pub columns-all : {table : List ℕ} {d : ℕ} → Columns table d → m ≤ maxNodes → d ≡ m → table ≡ padded (tabulate (m * m) (λ i. f (i / m) (i % m)))
+  pub columns-all : {table : List ℕ} {d : ℕ} → Columns table d → m ≤ maxNodes → d ≡ m → table ≡ padded tableSize (tabulate (m * m) (λ i. f (i / m) (i % m)))
   columns-all {table} h few e =
       let g : ℕ → ℕ = λ i. f (i / m) (i % m) in
       let long = tabulate-length (m * m) g in
       let most = square-le m few in
-      ext-getD 0 table (padded (tabulate (m * m) g)) (h .size ∙ sym (padded-length (tabulate (m * m) g) (omega arith)))
+      padded-ext tableSize (tabulate (m * m) g) table (omega arith) (h .size)
       (λ i l.
-      let size = h .size in
-      h .cells i (omega arith) ∙ rw (e, inside i, padded-at)
+      h .cells i l ∙ rw (e, inside i)
       (bcase (below i (m * m)) (λ t. rw t (sym (tabulate-at (m * m) g i 0 (below-lt _ _ t)))) (λ t. rw t (sym (tabulate-out (m * m) g i 0 (below-le _ _ t))))))

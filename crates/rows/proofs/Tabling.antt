@@ -44,6 +44,14 @@ module _ (edge : ℕ → ℕ → Bool) (label : ℕ → ℕ) where
   unfolding waysOf tableFrom
   down-length e = rw e (tabulate-length maxNodes _)
 
+  -- and a column has an entry for each
+  pub column-sizes : (d : ℕ) {up down : List ℕ} {c : Column} → up ≡ waysOf edge label .up → down ≡ waysOf edge label .down
+      → OfWays up down (λ edge label. c ≡ columnOf edge label d) → (length (c .free) ≡ maxNodes) × (length (c .falling) ≡ maxNodes)
+  unfolding columnOf
+  column-sizes d a b column =
+      let e = column edge label a b in
+      (rw (ap (λ (x : Column). x .free) e) (tabulate-length maxNodes _), rw (ap (λ (x : Column). x .falling) e) (tabulate-length maxNodes _))
+
   pub tabling-more : {m d : ℕ} {up down free falling free′ falling′ : List ℕ} {c : Column} → Tabling m up down free falling d
       → OfWays up down (λ edge label. c ≡ columnOf edge label d) → free′ ≡ placedOf m d (c .free) free → falling′ ≡ placedOf m d (c .falling) falling
       → Tabling m up down free′ falling′ (d + 1)
@@ -59,7 +67,7 @@ module _ (edge : ℕ → ℕ → Bool) (label : ℕ → ℕ) where
       }
 
   pub tabling-all : {m n d : ℕ} {up down free falling : List ℕ} → Tabling m up down free falling d → d ≡ m → m ≡ n
-      → record { free = free; falling = falling } ≡ tablesOf n edge label
+      → record { free = free; falling = falling } ≡ tablesOf maxNodes n edge label
   unfolding tablesOf rowsOf
   tabling-all {m} h e p = rw (← p) (λ i. record {
     free = columns-all m (entries true) (h .frees) (h .few) e i;

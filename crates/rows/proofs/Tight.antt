@@ -23,8 +23,8 @@ use Rattle.rows.proofs.Lookup.{known-faultless, fault-unknown, unknown-
 
 -- ---- any two outcomes that a promise allows are equal
 
-pub tables-determined : (t labels : List ℕ) (n : ℕ) (r s : Tables) → r ≡ tablesOf (min n maxNodes) (edgeOf t) (λ u. getD labels u 0)
-    → s ≡ tablesOf (min n maxNodes) (edgeOf t) (λ u. getD labels u 0) → r ≡ s
+pub tables-determined : (t labels : List ℕ) (n : ℕ) (r s : Tables) → r ≡ tablesOf maxNodes (min n maxNodes) (edgeOf t) (λ u. getD labels u 0)
+    → s ≡ tablesOf maxNodes (min n maxNodes) (edgeOf t) (λ u. getD labels u 0) → r ≡ s
 tables-determined t labels n r s p q = p ∙ sym q
 
 module _ (free falling : List ℕ) (n node class : ℕ) where

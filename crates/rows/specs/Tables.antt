@@ -1,9 +1,8 @@
 -- The two tables: row v has for each destination t the entry of v. Free is the class `true`.
 use mathlib.Core.Bool.{Bool, true, false}
-use mathlib.Core.List.{List, _++_}
-use Prim.Native.Nat.{ℕ, _-_, _*_, _/_, _%_}
-use lib.ListN.{length, replicate}
-use Rattle.finite.specs.Lists.{tabulate}
+use mathlib.Core.List.{List}
+use Prim.Native.Nat.{ℕ, _*_, _/_, _%_}
+use Rattle.finite.specs.Lists.{tabulate, padded}
 use Rattle.nodes.specs.Limits.{maxNodes}
 use Rattle.lawful.specs.Entry.{entry}
 use Rattle.rows.specs.declared.Tables.{Tables}
@@ -12,13 +11,10 @@ use Rattle.rows.specs.declared.Tables.{Tables}
 abbrev pub tableSize : ℕ
 tableSize = maxNodes * maxNodes
 
--- the rows of m nodes, one after the other: byte v * m + t is the entry of v for the destination t
-unfoldable pub rowsOf : ℕ → (ℕ → ℕ → Bool) → (ℕ → ℕ) → Bool → List ℕ
-rowsOf m edge label class = tabulate (m * m) (λ i. entry maxNodes edge label (i % m) class (i / m))
+-- the rows of m nodes, one after the other, of entries computed at the width w: byte v * m + t is the entry of v for the destination t
+unfoldable pub rowsOf : ℕ → ℕ → (ℕ → ℕ → Bool) → (ℕ → ℕ) → Bool → List ℕ
+rowsOf w m edge label class = tabulate (m * m) (λ i. entry w edge label (i % m) class (i / m))
 
--- a list and zeros behind it, up to the size of a table
-unfoldable pub padded : List ℕ → List ℕ
-padded l = l ++ replicate (tableSize - length l) 0
-
-unfoldable pub tablesOf : ℕ → (ℕ → ℕ → Bool) → (ℕ → ℕ) → Tables
-tablesOf m edge label = record { free = padded (rowsOf m edge label true); falling = padded (rowsOf m edge label false) }
+-- both classes, with zeros behind the rows up to the size of a table
+unfoldable pub tablesOf : ℕ → ℕ → (ℕ → ℕ → Bool) → (ℕ → ℕ) → Tables
+tablesOf w m edge label = record { free = padded tableSize (rowsOf w m edge label true); falling = padded tableSize (rowsOf w m edge label false) }

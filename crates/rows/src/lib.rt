@@ -1,13 +1,13 @@
 // The two tables of next-hop rows, each column found by one search backwards from its destination; and the calls that read a row or one byte of such tables.
 ghost use mathlib.Core.Path.{_≡_};
 ghost use Prim.Native.Nat.{_<_, _≤_, min};
-ghost use lib.ListN.{getD};
+ghost use lib.ListN.{length, getD};
 ghost use Rattle.finite.specs.Truth.{_&_, _or_, same};
 ghost use Rattle.finite.specs.Search.{least};
 ghost use Rattle.finite.specs.Sets.{has, setOf};
 ghost use Rattle.nodes.specs.Limits.{maxNodes};
 ghost use Rattle.network.specs.Table.{edgeOf};
-ghost use Rattle.rows.specs.Tables.{tablesOf};
+ghost use Rattle.rows.specs.Tables.{tableSize, tablesOf};
 ghost use Rattle.rows.specs.Steps.{waysOf, startOf, linkedIn, linkedOf, halfOf, roundOf, rounds, searchAt, OfWays, columnOf, placedOf};
 ghost use Rattle.rows.specs.Row.{rowKnown, rowIn, hopIn};
 use nodes::MAX_NODES;
@@ -183,16 +183,14 @@ fn column_of(up: &[u64], down: &[u64], linked: u64, t: usize) -> Column
     Column { free, falling }
 }
 
-// The table with m columns in which column d is this one.
-fn placed(table: [u8; TABLE], column: [u8; MAX_NODES], m: usize, d: usize) -> [u8; TABLE]
-    requires { ⌜ (m ≤ maxNodes) × (d < m) ⌝ }
-    ensures { λ r. ⌜ r ≡ placedOf m d column table ⌝ }
+// Column d of a lent table with m columns becomes this one.
+fn place(table: &mut [u8], column: &[u8], m: usize, d: usize)
+    requires { ⌜ (m ≤ maxNodes) × (d < m) × (length (now table) ≡ tableSize) × (length (now column) ≡ maxNodes) ⌝ }
+    ensures { λ _. ⌜ now (table .exit) ≡ placedOf m d (now (column .entry)) (now (table .entry)) ⌝ }
 {
-    let mut next = table;
     for v in 0..m {
-        next[v * m + d] = column[v];
+        table[v * m + d] = column[v];
     }
-    next
 }
 
 // The rows of both classes, one after the other, 0 behind the last.
@@ -203,7 +201,7 @@ pub struct Tables {
 
 // The rows of the first n nodes; of an n above 64 only 64 count.
 pub fn tables_of(t: &[u64], labels: &[u8], n: usize) -> Tables
-    ensures { λ r. ⌜ r ≡ tablesOf (min n maxNodes) (edgeOf (now (t .entry))) (λ u. getD (now (labels .entry)) u 0) ⌝ }
+    ensures { λ r. ⌜ r ≡ tablesOf maxNodes (min n maxNodes) (edgeOf (now (t .entry))) (λ u. getD (now (labels .entry)) u 0) ⌝ }
 {
     let m = nodes::capped(n);
     let ways = ways_of(t, labels);
@@ -216,10 +214,8 @@ pub fn tables_of(t: &[u64], labels: &[u8], n: usize) -> Tables
         let c = column_of(&up, &down, linked, d);
         let a = c.free;
         let b = c.falling;
-        let more = placed(free, a, m, d);
-        free = more;
-        let further = placed(falling, b, m, d);
-        falling = further;
+        place(&mut free, &a, m, d);
+        place(&mut falling, &b, m, d);
     }
     Tables { free, falling }
 }

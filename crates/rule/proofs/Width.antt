@@ -1,11 +1,11 @@
 -- Labels do not depend on the width that they are computed at, if it has room for the nodes: of a wider list of labels the front is the narrow one, with zeros behind.
 use mathlib.Core.Path.{_≡_, sym, _∙_, ap, ap₂}
-use mathlib.Core.Bool.{Bool, true}
+use mathlib.Core.Bool.{Bool}
 use Prim.Native.Nat.{ℕ, _*_, _-_, _≤_, _<_}
-use native.Mathlib.Nat.{le-refl, le-of-eq}
+use native.Mathlib.Nat.{le-refl}
 use native.Mathlib.Omega.{arith}
 use lib.Dec.{leb}
-use lib.ListN.{length, List·getD-eq-default}
+use lib.ListN.{List·getD-eq-default}
 use Rattle.finite.specs.Truth.{_&_, non, below}
 use Rattle.finite.specs.Sum.{when}
 use Rattle.finite.specs.Lists.{padded}

@@ -1,9 +1,8 @@
 -- The checks of a message list, and what start leaves, case by case.
-use mathlib.Core.Path.{_≡_, refl, _∙_, ap₂}
+use mathlib.Core.Path.{_≡_, refl, sym, _∙_, ap}
 use mathlib.Core.Bool.{true}
 use mathlib.Core.List.{List}
-use Prim.Native.Nat.{ℕ, _≤_, _<_, _/_, _%_, min}
-use native.Mathlib.Omega.{arith}
+use Prim.Native.Nat.{ℕ, _≤_, _<_, _/_, _%_}
 use lib.Dec.{leb, eqb}
 use lib.ListN.{length}
 use borrow.Author.Tests.{le-leb, lt-leb, eqb-true}
@@ -12,20 +11,18 @@ use Rattle.finite.specs.Search.{least}
 use Rattle.finite.proofs.Truth.{no-tf, refute, both, and-l, and-r, lt-below, le-below}
 use Rattle.refusal.specs.declared.Refusal.{Refusal}
 use Rattle.refusal.specs.declared.Refusal.the-variants.{Unknown, Messages}
+use Rattle.refusal.specs.declared.Verdict.{Verdict}
 use Rattle.refusal.specs.declared.Verdict.the-variants.{Fine, Fault}
-use Rattle.machine.specs.Fresh.{sourceIn, targetIn, begunOf}
+use Rattle.fabric.specs.declared.Fabric.{Fabric}
+use Rattle.fabric.specs.declared.Made.{Made}
+use Rattle.fabric.specs.Fabric.{fabricOf, madeBy}
+use Rattle.fabric.proofs.Making.{made-verdict, made-fabric}
+use Rattle.image.specs.Image.{cablingIn}
+use Rattle.image.specs.Calls.{imageFault}
+use Rattle.image.proofs.Faults.{then-fine, then-fault}
 use Rattle.machine.specs.declared.Record.{Record}
-use Rattle.format.specs.Contents.{nodesIn, pairsIn}
-use Rattle.nodes.specs.Limits.{maxNodes}
-use Rattle.network.specs.Table.{edgeOf, tableOf}
-use Rattle.cabling.specs.Cabling.{links}
-use Rattle.rule.specs.Labels.{labelIn, labelsOf}
-use Rattle.rows.specs.declared.Tables.{Tables}
-use Rattle.rows.specs.Tables.{tablesOf}
-use Rattle.image.specs.Image.{labelOf}
-use Rattle.image.proofs.Assembled.{labels-are, tables-are}
-use Rattle.image.specs.Calls.{andThen, imageFault}
-use Rattle.start.specs.Start.{fits, strange, listFault, freshOf, recordAfter, startOf}
+use Rattle.machine.specs.Fresh.{sourceIn, targetIn}
+use Rattle.start.specs.Start.{fits, strange, listFault, startFault, freshIn, freshOf, recordAfter, beside, startOf}
 
 -- a source that is no node; else the destination decides
 pub strange-source : (n : ℕ) (list : List ℕ) (p : ℕ) → n ≤ sourceIn list p → true ≡ strange n list p
@@ -58,26 +55,30 @@ module _ (n : ℕ) (list : List ℕ) (even : length list % 2 ≡ 0) (short : len
   unfolding listFault
   fine-list h = rw (fitting, le-below h, listFault)
 
--- labels and tables that are made for the cabling of an image make the fresh record
-pub fresh-is : (b list pairs t l : List ℕ) (n : ℕ) (r : Tables) → nodesIn b ≤ maxNodes → n ≡ nodesIn b → pairs ≡ pairsIn b → t ≡ tableOf pairs
-    → l ≡ labelsOf maxNodes (edgeOf t) (min n maxNodes) → r ≡ tablesOf (min n maxNodes) (edgeOf t) (labelIn l)
-    → begunOf n l (r .free) (r .falling) list ≡ freshOf b list
-unfolding freshOf
-fresh-is b list pairs t l n r h en ep et el er =
-    let low : n ≤ maxNodes = omega arith in
-    ap₂ (λ (x : List ℕ) (y : Tables). begunOf n x (y .free) (y .falling) list) (labels-are n pairs t l r low et el er) (tables-are n pairs t l r low et el er)
-    ∙ ap₂ (λ (m : ℕ) (q : List ℕ). begunOf m (labelsOf maxNodes (links q) m) (tablesOf m (links q) (labelOf m q) .free) (tablesOf m (links q) (labelOf m q) .falling) list) en ep
-
--- what start leaves
+-- what start leaves, by its verdict
 module _ (old : Record) (b list : List ℕ) where
-  pub start-image : (r : Refusal) → imageFault b ≡ Fault r → record { verdict = Fault r; «record» = old } ≡ startOf old b list
-  unfolding startOf recordAfter andThen
-  start-image r e = rw (e, startOf)
+  pub start-by : {v : Verdict} → startFault b list ≡ v → beside v (recordAfter v old (freshOf b list)) ≡ startOf old b list
+  unfolding startOf
+  start-by e = cc
 
-  pub start-list : (r : Refusal) → imageFault b ≡ Fine → listFault (nodesIn b) list ≡ Fault r → record { verdict = Fault r; «record» = old } ≡ startOf old b list
-  unfolding startOf recordAfter andThen
-  start-list r e f = rw (e, f, startOf)
+  -- the verdict comes from what the image opens as, and then from the list
+  module _ {m : Made} (e : m ≡ madeBy (imageFault b) (cablingIn b)) where
+    pub start-image : {r : Refusal} → m .verdict ≡ Fault r → beside (Fault r) old ≡ startOf old b list
+    unfolding recordAfter
+    start-image h = start-by (then-fault _ (sym (made-verdict _ e) ∙ h))
 
-  pub start-fresh : imageFault b ≡ Fine → listFault (nodesIn b) list ≡ Fine → record { verdict = Fine; «record» = freshOf b list } ≡ startOf old b list
-  unfolding startOf recordAfter andThen
-  start-fresh e f = rw (e, f, startOf)
+    module _ (h : m .verdict ≡ Fine) {v : Verdict} (l : v ≡ listFault (m .fabric .nodes) list) where
+      opened : imageFault b ≡ Fine
+      opened = sym (made-verdict _ e) ∙ h
+
+      checked : startFault b list ≡ v
+      unfolding fabricOf
+      checked = then-fine _ opened ∙ ap (λ (f : Fabric). listFault (f .nodes) list) (sym (made-fabric _ e opened)) ∙ sym l
+
+      pub start-list : {r : Refusal} → v ≡ Fault r → beside (Fault r) old ≡ startOf old b list
+      unfolding recordAfter
+      start-list k = start-by (checked ∙ k)
+
+      pub start-fresh : v ≡ Fine → {x : Record} → x ≡ freshIn (m .fabric) list → beside Fine x ≡ startOf old b list
+      unfolding recordAfter freshOf
+      start-fresh k x = ap (beside Fine) (x ∙ ap (λ (f : Fabric). freshIn f list) (made-fabric _ e opened)) ∙ start-by (checked ∙ k)

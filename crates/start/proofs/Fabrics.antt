@@ -1,6 +1,6 @@
 -- A start that is not refused is one that demand 3 speaks of: a climbing fabric with the tables of its entries, and a list of messages between its nodes.
-use mathlib.Core.Path.{_≡_, _∙_, ap, subst}
-use mathlib.Core.Bool.{true, false}
+use mathlib.Core.Path.{_≡_, sym, _∙_, ap, subst, fun-ext}
+use mathlib.Core.Bool.{Bool, true, false}
 use mathlib.Core.List.{List}
 use Prim.Native.Nat.{ℕ, _+_, _*_, _/_, _%_, _≤_, _<_}
 use native.Mathlib.Omega.{arith}
@@ -8,42 +8,59 @@ use lib.Dec.{leb, eqb}
 use lib.ListN.{getD}
 use borrow.Author.Tests.{leb-true, leb-false, eqb-true, eqb-false}
 use Rattle.finite.proofs.Truth.{bcase}
+use Rattle.finite.specs.Lists.{padded}
+use Rattle.finite.proofs.Lists.{padded-at}
 use Rattle.nodes.specs.Limits.{maxNodes}
-use Rattle.network.proofs.Meaning.{pairs-network}
 use Rattle.refusal.specs.declared.Verdict.the-variants.{Fine}
-use Rattle.cabling.specs.Cabling.{Good, links}
+use Rattle.cabling.specs.Cabling.{Cabling, Good, links}
 use Rattle.cabling.proofs.Joined.{good-network}
-use Rattle.rule.specs.Labels.{labelsOf}
-use Rattle.rule.proofs.Labels.{label-le}
-use Rattle.rule.proofs.Climb.{labels-climbing}
-use Rattle.rows.specs.Tables.{tablesOf}
-use Rattle.rows.proofs.Grid.{padded-at}
-use Rattle.rows.proofs.Meaning.{rows-at}
-use Rattle.format.specs.Contents.{nodesIn, pairsIn}
-use Rattle.image.specs.Image.{labelOf}
+use Rattle.lawful.specs.Turn.{Climbing}
+use Rattle.lawful.specs.Entry.{entry}
+use Rattle.rows.specs.Tables.{tableSize}
+use Rattle.fabric.specs.Fabric.{labelsFor, labelFor, rowsFor, fabricOf}
+use Rattle.fabric.proofs.Labels.{good-climbing, good-label-le}
+use Rattle.fabric.proofs.Rows.{good-row-at}
+use Rattle.format.specs.Contents.{nodesIn}
+use Rattle.image.specs.Image.{cablingIn}
 use Rattle.image.specs.Calls.{imageFault}
+use Rattle.image.proofs.Faults.{and-then-fine}
 use Rattle.image.proofs.Images.{accepted-good}
 use Rattle.machine.specs.declared.Record.{Record}
-use Rattle.machine.specs.Runs.{Fabric, Listed, Reached, fresh}
-use Rattle.start.specs.Start.{listFault, freshOf, startOf}
+use Rattle.machine.specs.Runs.{labelIn, Tabled, Listed, Reached, fresh}
+use Rattle.start.specs.declared.Started.{Started}
+use Rattle.start.specs.Start.{listFault, startFault, freshOf, recordAfter, startOf}
 use Rattle.start.specs.Verdicts.{OfList, fine}
-use Rattle.start.proofs.Cases.{start-fresh}
+use Rattle.start.proofs.Cases.{start-by}
 use Rattle.start.proofs.Meaning.{list-means}
 
--- the tables of a good cabling are a fabric
-module _ {n : ℕ} {pairs : List ℕ} (g : Good n pairs) where
-  pub good-fabric : Fabric n (links pairs) (labelsOf maxNodes (links pairs) n) (tablesOf n (links pairs) (labelOf n pairs) .free) (tablesOf n (links pairs) (labelOf n pairs) .falling)
-  unfolding tablesOf
-  good-fabric =
-      let two = g .many in
-      record {
-        many = g .few;
-        network = good-network g;
-        climbing = labels-climbing maxNodes n (links pairs) (good-network g) (g .few) (g .connected) (omega arith);
-        highest = λ v l. label-le maxNodes (links pairs) (pairs-network pairs) n (g .few) (g .connected) v;
-        free-rows = λ v t k l. padded-at _ _ ∙ rows-at n (links pairs) (labelOf n pairs) true v t k l;
-        falling-rows = λ v t k l. padded-at _ _ ∙ rows-at n (links pairs) (labelOf n pairs) false v t k l;
-      }
+-- the fabric of a cabling has the tables of its network
+abbrev pub TabledFor : Cabling → Type 0
+TabledFor c = Tabled (c .nodes) (links c) (fabricOf c .labels) (fabricOf c .free) (fabricOf c .falling)
+
+-- the records that moves lead to from a start in it
+abbrev pub RunFor : Cabling → List ℕ → Record → Type 0
+RunFor c = Reached (c .nodes) (fabricOf c .labels) (fabricOf c .free) (fabricOf c .falling)
+
+-- labels are read the same from the list and from the fabric's array
+pub label-read : (c : Cabling) → labelIn (fabricOf c .labels) ≡ labelFor c
+unfolding fabricOf
+label-read c = fun-ext (padded-at maxNodes (labelsFor c))
+
+pub good-fabric : {c : Cabling} → Good c → TabledFor c
+unfolding fabricOf
+good-fabric {c} g =
+    let read = sym (label-read c) in
+    let row : (class : Bool) (v t : ℕ) → v < c .nodes → t < c .nodes
+    → getD (padded tableSize (rowsFor c class)) (v * c .nodes + t) 0 ≡ entry (c .nodes) (links c) (labelIn (fabricOf c .labels)) t class v =
+    λ class v t k l. padded-at _ _ _ ∙ good-row-at g class v t k l ∙ ap (λ (f : ℕ → ℕ). entry (c .nodes) (links c) f t class v) read in
+    record {
+      many = g .few;
+      network = good-network g;
+      climbing = subst (Climbing (c .nodes) (links c)) read (good-climbing g);
+      highest = λ v l. rw padded-at (good-label-le g v);
+      free-rows = row true;
+      falling-rows = row false;
+    }
 
 -- a list without a fault is one of messages between nodes
 pub fine-listed : (n : ℕ) (list : List ℕ) → listFault n list ≡ Fine → Listed n list
@@ -61,20 +78,22 @@ fine-listed n list h = listed (list-means n list Fine .0 h)
           (λ t. let z : i % 2 ≡ 0 → ⊥ = eqb-false _ _ t in subst (λ (j : ℕ). getD list j 0 < n) {x = 2 * (i / 2) + 1} (odd i z) (both (i / 2) (omega arith) .1));
     }
 
--- the record of such a start begins a run
-module _ (old : Record) (b list : List ℕ) (image : imageFault b ≡ Fine) (messages : listFault (nodesIn b) list ≡ Fine) where
-  abbrev n : ℕ
-  n = nodesIn b
+-- a fresh record begins a run
+pub fresh-reached : (b list : List ℕ) → RunFor (cablingIn b) list (freshOf b list)
+unfolding freshOf fabricOf
+fresh-reached b list = fresh
 
-  abbrev pairs : List ℕ
-  pairs = pairsIn b
+-- so does the record of a start that is not refused
+module _ (b list : List ℕ) (fine : startFault b list ≡ Fine) where
+  accepted : (imageFault b ≡ Fine) × (listFault (nodesIn b) list ≡ Fine)
+  accepted = and-then-fine _ _ fine
 
-  pub start-reached : Reached n (labelsOf maxNodes (links pairs) n) (tablesOf n (links pairs) (labelOf n pairs) .free) (tablesOf n (links pairs) (labelOf n pairs) .falling) list (startOf old b list .«record»)
-  unfolding freshOf
-  start-reached = subst (Reached n _ _ _ list) (ap (λ s. s .«record») (start-fresh old b list image messages)) fresh
+  pub start-reached : (old : Record) → RunFor (cablingIn b) list (startOf old b list .«record»)
+  unfolding recordAfter
+  start-reached old = subst (RunFor (cablingIn b) list) (ap (λ (s : Started). s .«record») (start-by old b list fine)) (fresh-reached b list)
 
-  pub start-fabric : Fabric n (links pairs) (labelsOf maxNodes (links pairs) n) (tablesOf n (links pairs) (labelOf n pairs) .free) (tablesOf n (links pairs) (labelOf n pairs) .falling)
-  start-fabric = good-fabric (accepted-good b image)
+  pub start-fabric : TabledFor (cablingIn b)
+  start-fabric = good-fabric (accepted-good b (accepted .0))
 
-  pub start-listed : Listed n list
-  start-listed = fine-listed n list messages
+  pub start-listed : Listed (nodesIn b) list
+  start-listed = fine-listed (nodesIn b) list (accepted .1)

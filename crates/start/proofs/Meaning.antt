@@ -1,5 +1,5 @@
--- The verdicts on a message list mean what 01 says: each is given exactly where its row of specs/Verdicts.antt holds.
-use mathlib.Core.Path.{_≡_, sym, _∙_, ap, subst}
+-- The verdicts of start mean what 01 says: each is given exactly where its row of specs/Verdicts.antt holds.
+use mathlib.Core.Path.{_≡_, refl, sym, _∙_, ap, subst}
 use mathlib.Core.Bool.{true, false}
 use mathlib.Core.List.{List}
 use mathlib.Core.Logic.{_↔_, _⊎_, inl, inr, ⊎-elim}
@@ -15,10 +15,14 @@ use Rattle.finite.proofs.Truth.{no-tf, bcase, refute, or-l, or-r, or-case, belo
 use Rattle.finite.proofs.Search.{least-before, least-fact, least-unique}
 use Rattle.refusal.specs.declared.Refusal.the-variants.{Unknown}
 use Rattle.refusal.specs.declared.Verdict.{Verdict}
-use Rattle.refusal.specs.declared.Verdict.the-variants.{Fault}
+use Rattle.refusal.specs.declared.Verdict.the-variants.{Fine, Fault}
+use Rattle.format.specs.Contents.{nodesIn}
+use Rattle.image.specs.Calls.{imageFault}
+use Rattle.image.proofs.Faults.{then-fine, then-fault}
+use Rattle.image.proofs.Meaning.{either-means}
 use Rattle.machine.specs.Fresh.{sourceIn, targetIn}
-use Rattle.start.specs.Start.{strange, listFault}
-use Rattle.start.specs.Verdicts.{BothNodes, OfList, odd, over, unknown, fine}
+use Rattle.start.specs.Start.{strange, listFault, startFault}
+use Rattle.start.specs.Verdicts.{BothNodes, OfList, odd, over, unknown, fine, OfStart, of-image, of-list}
 use Rattle.start.proofs.Cases.{odd-list, long-list, strange-list, fine-list}
 
 module _ (n : ℕ) (list : List ℕ) where
@@ -78,3 +82,15 @@ module _ (n : ℕ) (list : List ℕ) where
   -- "Given exactly when", of a message list
   pub list-means : (v : Verdict) → (listFault n list ≡ v) ↔ OfList n list v
   list-means v = (λ e. subst (OfList n list) e list-row, list-given)
+
+-- "Given exactly when", of a start
+pub start-means : (b list : List ℕ) (v : Verdict) → (startFault b list ≡ v) ↔ OfStart b list v
+start-means b list v = (row (imageFault b) refl, given)
+  where
+    row : (w : Verdict) → imageFault b ≡ w → startFault b list ≡ v → OfStart b list v
+    row Fine h e = of-list (either-means b Fine .0 h) (list-means (nodesIn b) list v .0 (sym (then-fine _ h) ∙ e))
+    row (Fault r) h e = subst (OfStart b list) (sym (then-fault _ h) ∙ e) (of-image (either-means b (Fault r) .0 h))
+
+    given : {w : Verdict} → OfStart b list w → startFault b list ≡ w
+    given (of-image h) = then-fault _ (either-means b _ .1 h)
+    given (of-list h l) = then-fine _ (either-means b Fine .1 h) ∙ list-means (nodesIn b) list _ .1 l

@@ -6,16 +6,13 @@ use lib.Dec.{leb, eqb}
 use lib.ListN.{length}
 use Rattle.finite.specs.Truth.{_&_, _or_, below}
 use Rattle.finite.specs.Search.{least}
-use Rattle.nodes.specs.Limits.{maxNodes}
 use Rattle.refusal.specs.declared.Refusal.the-variants.{Unknown, Messages}
 use Rattle.refusal.specs.declared.Verdict.{Verdict}
 use Rattle.refusal.specs.declared.Verdict.the-variants.{Fine, Fault}
-use Rattle.cabling.specs.Cabling.{links}
-use Rattle.rule.specs.Labels.{labelsOf}
-use Rattle.rows.specs.declared.Tables.{Tables}
-use Rattle.rows.specs.Tables.{tablesOf}
-use Rattle.format.specs.Contents.{nodesIn, pairsIn}
-use Rattle.image.specs.Image.{labelOf}
+use Rattle.fabric.specs.declared.Fabric.{Fabric}
+use Rattle.fabric.specs.Fabric.{fabricOf}
+use Rattle.format.specs.Contents.{nodesIn}
+use Rattle.image.specs.Image.{cablingIn}
 use Rattle.image.specs.Calls.{andThen, imageFault}
 use Rattle.machine.specs.declared.Record.{Record}
 use Rattle.machine.specs.Fresh.{sourceIn, targetIn, begunOf}
@@ -43,11 +40,12 @@ listFault n list =
 abbrev pub startFault : List ℕ → List ℕ → Verdict
 startFault b list = andThen (imageFault b) (listFault (nodesIn b) list)
 
--- "a record, which it fills anew": labels and rows are what the rules give for the cabling of the image
+-- "a record, which it fills anew", over the labels and rows of a fabric: that of the image's cabling
+abbrev pub freshIn : Fabric → List ℕ → Record
+freshIn f list = begunOf (f .nodes) (f .labels) (f .free) (f .falling) list
+
 unfoldable pub freshOf : List ℕ → List ℕ → Record
-freshOf b list =
-    let tables : Tables = tablesOf (nodesIn b) (links (pairsIn b)) (labelOf (nodesIn b) (pairsIn b)) in
-    begunOf (nodesIn b) (labelsOf maxNodes (links (pairsIn b)) (nodesIn b)) (tables .free) (tables .falling) list
+freshOf b list = freshIn (fabricOf (cablingIn b)) list
 
 -- "buffers and record stay untouched"
 unfoldable pub recordAfter : Verdict → Record → Record → Record

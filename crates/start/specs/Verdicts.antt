@@ -1,12 +1,15 @@
--- What each verdict on a message list says: 01's rows 10 and 11, in 01's order.
+-- What each verdict of start says: an image under read's rules, and then 01's rows 10 and 11 of its message list, in 01's order.
 use mathlib.Core.Path.{_≡_}
 use mathlib.Core.List.{List}
 use mathlib.Core.Logic.{_⊎_}
 use Prim.Native.Nat.{ℕ, _/_, _%_, _≤_, _<_}
 use lib.ListN.{length}
+use Rattle.refusal.specs.declared.Refusal.{Refusal}
 use Rattle.refusal.specs.declared.Refusal.the-variants.{Unknown, Messages}
 use Rattle.refusal.specs.declared.Verdict.{Verdict}
 use Rattle.refusal.specs.declared.Verdict.the-variants.{Fine, Fault}
+use Rattle.format.specs.Contents.{nodesIn}
+use Rattle.image.specs.Verdicts.{OfEither}
 use Rattle.machine.specs.Fresh.{sourceIn, targetIn}
 
 -- both ends of pair p are nodes
@@ -20,3 +23,8 @@ pub data OfList (n : ℕ) (list : List ℕ) : Verdict → Type 0 where
   unknown : (p : ℕ) → length list % 2 ≡ 0 → length list ≤ 512 → p < length list / 2 → (n ≤ sourceIn list p) ⊎ (n ≤ targetIn list p)
       → ((q : ℕ) → q < p → BothNodes n list q) → OfList n list (Fault (Unknown p))
   fine : length list % 2 ≡ 0 → length list ≤ 512 → ((p : ℕ) → p < length list / 2 → BothNodes n list p) → OfList n list Fine
+
+-- "an image (read's rules)", and then the list of messages between its nodes
+pub data OfStart (b list : List ℕ) : Verdict → Type 0 where
+  of-image : {r : Refusal} → OfEither b (Fault r) → OfStart b list (Fault r)
+  of-list : {v : Verdict} → OfEither b Fine → OfList (nodesIn b) list v → OfStart b list v

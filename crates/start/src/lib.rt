@@ -1,11 +1,10 @@
 // The start call of the drain machine: an image under read's rules, the list of messages under its own, and then a fresh record.
 ghost use mathlib.Core.Path.{_≡_};
-ghost use Prim.Native.Nat.{_≤_, _<_, _/_};
+ghost use Prim.Native.Nat.{_<_, _/_};
 ghost use lib.ListN.{length};
 ghost use Rattle.finite.specs.Search.{least};
-ghost use Rattle.nodes.specs.Limits.{maxNodes};
-ghost use Rattle.format.specs.Contents.{nodesIn};
-ghost use Rattle.start.specs.Start.{strange, listFault, freshOf, startOf};
+ghost use Rattle.start.specs.Start.{strange, listFault, freshIn, startOf};
+use fabric::Fabric;
 use machine::Record;
 use refusal::Refusal;
 use refusal::Verdict;
@@ -60,32 +59,30 @@ fn list_fault(n: usize, list: &[u8]) -> Verdict
     Verdict::Fine
 }
 
-// The record of a fresh start.
-fn fresh(image: &[u8], list: &[u8]) -> Record
-    requires { ⌜ nodesIn (now image) ≤ maxNodes ⌝ }
-    ensures { λ r. ⌜ r ≡ freshOf (now (image .entry)) (now (list .entry)) ⌝ }
+// The record of a fresh start in a fabric.
+fn fresh(f: Fabric, list: &[u8]) -> Record
+    ensures { λ r. ⌜ r ≡ freshIn f (now (list .entry)) ⌝ }
 {
-    let n = format::nodes_in(image);
-    let t = network::table_of(format::pairs_in(image));
-    let labels = labels::labels(t, n);
-    let tables = rows::tables_of(&t, &labels, n);
-    let free = tables.free;
-    let falling = tables.falling;
-    machine::begun(n, labels, free, falling, list)
+    let labels = f.labels;
+    let free = f.free;
+    let falling = f.falling;
+    machine::begun(f.nodes, labels, free, falling, list)
 }
 
 // Starts the machine afresh: 1 to 8 of the image, 11, 10.
 pub fn start(record: Record, image: &[u8], list: &[u8]) -> Started
     ensures { λ r. ⌜ r ≡ startOf «record» (now (image .entry)) (now (list .entry)) ⌝ }
 {
-    let first = image::verdict(image);
+    let opened = image::open(image);
+    let first = opened.verdict;
     if let Verdict::Fault(r) = first {
         return Started {
             verdict: Verdict::Fault(r),
             record,
         };
     }
-    let second = list_fault(format::nodes_in(image), list);
+    let f = opened.fabric;
+    let second = list_fault(f.nodes, list);
     if let Verdict::Fault(r) = second {
         return Started {
             verdict: Verdict::Fault(r),
@@ -94,6 +91,6 @@ pub fn start(record: Record, image: &[u8], list: &[u8]) -> Started
     }
     Started {
         verdict: Verdict::Fine,
-        record: fresh(image, list),
+        record: fresh(f, list),
     }
 }

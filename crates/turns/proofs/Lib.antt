@@ -2,3 +2,4 @@ pub mod Pairs
 pub mod Turns
 pub mod Adding
 pub mod Sift
+pub mod Width

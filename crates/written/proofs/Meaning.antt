@@ -41,6 +41,34 @@ module _ (bytes : List ℕ) (room : ℕ) where
     written-none,
   )
 
+  -- a call whose verdict is not 9 itself answers 9 exactly where it would write and finds no room
+  pub short-means : (v : Verdict) → (v ≡ Fault Short → ⊥) → (writtenOf v bytes room ≡ NotWritten Short) ↔ ((v ≡ Fine) × (room < length bytes))
+  short-means Fine n = (λ e. (refl, written-short .0 e), λ h. written-short .1 (h .1))
+  short-means (Fault r) n = (λ e. absurd (n (let f = written-fault r in cc)), λ h. absurd (n (let f = h .0 in cc)))
+
+  -- what was written was not refused, and a refusal for another reason than 9 is the verdict
+  pub not-refused : (v : Verdict) (m : ℕ) → writtenOf v bytes room ≡ Bytes m → v ≡ Fine
+  not-refused Fine m e = refl
+  not-refused (Fault r) m e = absurd (bytes-not-refused (sym e ∙ written-fault r))
+
+  -- and it found room for all
+  pub written-size : (v : Verdict) (m : ℕ) → writtenOf v bytes room ≡ Bytes m → (m ≡ length bytes) × (length bytes ≤ room)
+  written-size (Fault r) m e = absurd (bytes-not-refused (sym e ∙ written-fault r))
+  written-size Fine m e =
+      bcase (leb (length bytes) room) (λ t. let h = leb-true _ _ t in (let f = written-room h in cc, h))
+      (λ f. absurd (bytes-not-refused (sym e ∙ written-none (leb-false _ _ f))))
+
+  pub refused-for : (v : Verdict) (r : Refusal) → (r ≡ Short → ⊥) → writtenOf v bytes room ≡ NotWritten r → v ≡ Fault r
+  refused-for (Fault q) r n e = let f = written-fault q in cc
+  refused-for Fine r n e =
+      bcase (leb (length bytes) room) (λ t. absurd (bytes-not-refused (sym (written-room (leb-true _ _ t)) ∙ e)))
+      (λ f. absurd (n (let g = written-none (leb-false _ _ f) in cc)))
+
+  -- where there is room, every refusal is the verdict
+  pub refused-in-room : (v : Verdict) (r : Refusal) → length bytes ≤ room → writtenOf v bytes room ≡ NotWritten r → v ≡ Fault r
+  refused-in-room (Fault q) r h e = let f = written-fault q in cc
+  refused-in-room Fine r h e = absurd (bytes-not-refused (sym (written-room h) ∙ e))
+
 module _ (bytes before after : List ℕ) where
   -- "buffers and record stay untouched"
   pub refused-untouched : (v : Verdict) (r : Refusal) → Writes v bytes before (NotWritten r) after → after ≡ before

@@ -29,3 +29,7 @@ writtenInto (Fault r) bytes buffer = buffer
 pub record Writes (verdict : Verdict) (bytes before : List ℕ) (answer : Written) (after : List ℕ) : Type 0 where
   pub answers : answer ≡ writtenOf verdict bytes (length before)
   pub leaves : after ≡ writtenInto verdict bytes before
+
+-- a program asks for room for the longest that it may print, before it writes a byte: 9 where a buffer has no room for `most` bytes
+unfoldable pub roomFor : ℕ → List ℕ → Verdict
+roomFor most buffer = elim (leb most (length buffer)) [ true ↦ Fine | false ↦ Fault Short ]

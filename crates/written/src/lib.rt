@@ -1,9 +1,8 @@
 // Results in lent buffers: written whole at the front, or not at all.
 ghost use mathlib.Core.Path.{_≡_};
-ghost use Prim.Native.Nat.{_≤_};
-ghost use lib.ListN.{length};
+ghost use lib.ListN.{take};
 ghost use Rattle.finite.specs.Lists.{alike};
-ghost use Rattle.written.specs.Written.{placed, Writes};
+ghost use Rattle.written.specs.Written.{Writes};
 ghost use Rattle.refusal.specs.declared.Verdict.{Verdict};
 use refusal::Refusal;
 
@@ -11,6 +10,16 @@ use refusal::Refusal;
 pub enum Written {
     Bytes(usize),
     NotWritten(Refusal),
+}
+
+// The first n bytes; all where there are fewer.
+pub fn front(s: &[u8], n: usize) -> &[u8]
+    ensures { λ r. ⌜ now r ≡ take n (now (s .entry)) ⌝ }
+{
+    if s.len() <= n {
+        return s;
+    }
+    &s[..n]
 }
 
 // Are the two the same bytes?
@@ -28,16 +37,6 @@ pub fn same_bytes(a: &[u8], b: &[u8]) -> bool
     true
 }
 
-// The bytes at the front of the buffer.
-fn copy(bytes: &[u8], buffer: &mut [u8])
-    requires { ⌜ length (now bytes) ≤ length (now buffer) ⌝ }
-    ensures { λ _. ⌜ now (buffer .exit) ≡ placed (now (bytes .entry)) (now (buffer .entry)) ⌝ }
-{
-    for i in 0..bytes.len() {
-        buffer[i] = bytes[i];
-    }
-}
-
 // The bytes at the front of the buffer, or 9 and nothing written where they find no room.
 pub fn place(bytes: &[u8], buffer: &mut [u8]) -> Written
     ensures { λ r. ⌜ Writes Verdict.Fine (now (bytes .entry)) (now (buffer .entry)) r (now (buffer .exit)) ⌝ }
@@ -45,6 +44,5 @@ pub fn place(bytes: &[u8], buffer: &mut [u8]) -> Written
     if buffer.len() < bytes.len() {
         return Written::NotWritten(Refusal::Short);
     }
-    copy(bytes, buffer);
-    Written::Bytes(bytes.len())
+    Written::Bytes(laid::put(buffer, 0, bytes))
 }

@@ -29,29 +29,8 @@ abbrev μ-loop : tie.MeasureT-loop
 loop-holds : tie.Need-loop-holds Inv-loop μ-loop
 loop-holds c = (omega arith, length-replicate {A = ℕ} 9309 0)
 
-cast-room : tie.Need-cast-room Inv-loop μ-loop
-cast-room c = omega arith
-
-add-room : tie.Need-add-room Inv-loop μ-loop
-add-room c = omega arith
-
-array-borrow-prefix-buffer : tie.Need-array-borrow-prefix-buffer Inv-loop μ-loop
-array-borrow-prefix-buffer c = omega arith
-
 slice-aggregate-build : tie.Need-slice-aggregate-build Inv-loop μ-loop
 slice-aggregate-build c = sym (length-take-le _ _ (room-there _ _ (c .before .before .loop .inv .1)))
-
-build-requires : tie.Need-build-requires Inv-loop μ-loop
-build-requires c κs = tt
-
-bytes-in-requires : tie.Need-bytes-in-requires Inv-loop μ-loop
-bytes-in-requires c κs = tt
-
-add-i : tie.Need-add-i Inv-loop μ-loop
-add-i c = omega arith
-
-loop-less : tie.Need-loop-less Inv-loop μ-loop
-loop-less c = omega arith
 
 loop-again : tie.Need-loop-again Inv-loop μ-loop
 loop-again c =
@@ -60,9 +39,6 @@ loop-again c =
       kept _ (c .before .before .build .last .1 .0) (l .buffer) (c .before .buffer2 .given) (room-there (l .i) _ (l .inv .1)) ∙ l .inv .1,
     )
 
-returns : tie.Need-returns Inv-loop μ-loop
-returns c = tt
-
 pub builds-spec : {M : Type 1} → statement M
 builds-spec =
     tie.close
@@ -70,13 +46,13 @@ builds-spec =
     Inv-loop
     μ-loop
     loop-holds
-    cast-room
-    add-room
-    array-borrow-prefix-buffer
+    (λ c. omega arith)
+    (λ c. omega arith)
+    (λ c. omega arith)
     slice-aggregate-build
-    build-requires
-    bytes-in-requires
-    add-i
-    loop-less
+    (λ c κs. tt)
+    (λ c κs. tt)
+    (λ c. omega arith)
+    (λ c. omega arith)
     loop-again
-    returns)
+    (λ c. tt))

@@ -10,25 +10,10 @@ use Rattle.cabling.proofs.Apart.{unreached-past, apart-word, least-foun
 use Rattle.cabling.proofs.lowest_apart.Statement.{statement}
 use Rattle.cabling.proofs.lowest_apart.Tie as tie
 
-one-requires : tie.Need-one-requires
-one-requires c κs = search needs
-
-flood-requires : tie.Need-flood-requires
-flood-requires c κs = search needs
-
-first-requires : tie.Need-first-requires
-first-requires c κs = search needs
-
-difference-requires : tie.Need-difference-requires
-difference-requires c κs = search needs
-
-lowest-requires : tie.Need-lowest-requires
-lowest-requires c κs = search needs
-
 -- what the words come to
 lowest : (c : tie.After-lowest) →
     let s = c .before .before .before .before .before .before in
-    c .lowest .result ≡ least maxNodes (λ u. below u (s .args .n) & unreached (edgeOf (s .args .t .now)) u)
+    c .lowest .result ≡ least maxNodes (λ u. below u (s .args .n) & unreached maxNodes (edgeOf (s .args .t .now)) u)
 lowest c =
     let d = c .before in
     let f = d .before .before in
@@ -43,4 +28,4 @@ returns-2 c = least-none-among _ maxNodes (unreached-past _) (lowest (c .before)
 pub lowest-apart-spec : {M : Type 1} → statement M
 lowest-apart-spec =
     tie.close
-    (tie.spec one-requires flood-requires first-requires difference-requires lowest-requires returns returns-2)
+    (tie.spec (λ c κs. search needs) (λ c κs. search needs) (λ c κs. search needs) (λ c κs. search needs) (λ c κs. search needs) returns returns-2)

@@ -20,27 +20,18 @@ abbrev μ-loop : tie.MeasureT-loop
 loop-holds : tie.Need-loop-holds Inv-loop μ-loop
 loop-holds c = (below-none _, omega arith)
 
-degree-requires : tie.Need-degree-requires Inv-loop μ-loop
-degree-requires c κs = tt
-
 returns : tie.Need-returns Inv-loop μ-loop
 returns c =
     let l = c .before .before .before .loop in
-    sym (least-is _ (decide-crowded _) (l .v) (omega arith) (omega arith) (l .inv .0))
-
-add-v : tie.Need-add-v Inv-loop μ-loop
-add-v c = omega arith
-
-loop-less : tie.Need-loop-less Inv-loop μ-loop
-loop-less c = omega arith
+    sym (least-is _ (decide-crowded _ _) (l .v) (omega arith) (omega arith) (l .inv .0))
 
 loop-again : tie.Need-loop-again Inv-loop μ-loop
 loop-again c = (below-more _ _ (c .before .before .before .loop .inv .0) (omega arith), omega arith)
 
 returns-2 : tie.Need-returns-2 Inv-loop μ-loop
-returns-2 c = sym (least-none _ (decide-crowded _) (λ u l. c .before .loop .inv .0 u (omega arith)))
+returns-2 c = sym (least-none _ (decide-crowded _ _) (λ u l. c .before .loop .inv .0 u (omega arith)))
 
 pub lowest-crowded-spec : {M : Type 1} → statement M
 lowest-crowded-spec =
     tie.close
-    (tie.spec Inv-loop μ-loop loop-holds degree-requires returns add-v loop-less loop-again returns-2)
+    (tie.spec Inv-loop μ-loop loop-holds (λ c κs. tt) returns (λ c. omega arith) (λ c. omega arith) loop-again returns-2)

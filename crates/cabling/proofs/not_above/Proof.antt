@@ -10,12 +10,6 @@ use Rattle.cabling.proofs.Tests.{decide-order}
 use Rattle.cabling.proofs.not_above.Statement.{statement}
 use Rattle.cabling.proofs.not_above.Tie as tie
 
-sub-rises : tie.Need-sub-rises
-sub-rises c = search needs
-
-rises-requires : tie.Need-rises-requires
-rises-requires c κs = search needs
-
 returns : tie.Need-returns
 returns c = sym (fail (decide-order _ _) (inl (c .if1 .taken)))
 
@@ -24,4 +18,4 @@ unfolding notAbove
 returns-2 c = rw (true-non (ne-same (c .before .if1 .left)), and-true, not-non) (ap non (c .rises .ensures))
 
 pub not-above-spec : {M : Type 1} → statement M
-not-above-spec = tie.close (tie.spec sub-rises rises-requires returns returns-2)
+not-above-spec = tie.close (tie.spec (λ c. search needs) (λ c κs. search needs) returns returns-2)

@@ -7,18 +7,6 @@ use Rattle.cabling.proofs.Tests.{decide-rises}
 use Rattle.cabling.proofs.rises.Statement.{statement}
 use Rattle.cabling.proofs.rises.Tie as tie
 
-low-end-requires : tie.Need-low-end-requires
-low-end-requires c κs = search needs
-
-low-end-requires-2 : tie.Need-low-end-requires-2
-low-end-requires-2 c κs = search needs
-
-high-end-requires : tie.Need-high-end-requires
-high-end-requires c κs = search needs
-
-high-end-requires-2 : tie.Need-high-end-requires-2
-high-end-requires-2 c κs = search needs
-
 returns : tie.Need-returns
 returns c =
     agree (decide-ltb (c .before .high-end .result) (c .high-end2 .result)) (decide-rises _ _ _) (λ h. inr (omega arith, omega arith))
@@ -32,4 +20,4 @@ returns-2 c =
 pub rises-spec : {M : Type 1} → statement M
 rises-spec =
     tie.close
-    (tie.spec low-end-requires low-end-requires-2 high-end-requires high-end-requires-2 returns returns-2)
+    (tie.spec (λ c κs. search needs) (λ c κs. search needs) (λ c κs. search needs) (λ c κs. search needs) returns returns-2)

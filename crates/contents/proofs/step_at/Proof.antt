@@ -5,17 +5,8 @@ use Rattle.contents.proofs.Going.{there-below, goes-on, stays}
 use Rattle.contents.proofs.step_at.Statement.{statement}
 use Rattle.contents.proofs.step_at.Tie as tie
 
-entry-at-requires : tie.Need-entry-at-requires
-entry-at-requires c κs = search needs
-
-enum-told : tie.Need-enum-told
-enum-told c = search needs
-
 add-next : tie.Need-add-next
 add-next c = omega (arith, there-below _ _ (c .before .before .entry-at .ensures) (c .enum-told .given .1), c .before .before .before .shared-slice-known .given 1)
-
-enum-told-2 : tie.Need-enum-told-2
-enum-told-2 c = search needs
 
 returns : tie.Need-returns
 returns c = goes-on _ _ (c .before .before .entry-at .ensures) (c .enum-told .given .1)
@@ -24,4 +15,4 @@ returns-2 : tie.Need-returns-2
 returns-2 c = stays _ _ (c .before .before .entry-at .ensures) (c .enum-told2 .given .1)
 
 pub step-at-spec : {M : Type 1} → statement M
-step-at-spec = tie.close (tie.spec entry-at-requires enum-told add-next enum-told-2 returns returns-2)
+step-at-spec = tie.close (tie.spec (λ c κs. search needs) (λ c. search needs) add-next (λ c. search needs) returns returns-2)

@@ -44,41 +44,11 @@ looked-at c = c .is-ready-in .ensures ∙ told-asked (counted (loop-of c)) (loop
 passed : (l : tie.At-loop Inv-loop μ-loop) (j : ℕ) → j < l .loop .k → asked (counted l) j ≡ false
 passed l j b = sym (told-asked (counted l) j) ∙ l .loop .inv .0 j b
 
-few-requires : tie.Need-few-requires Inv-loop μ-loop
-few-requires c κs = search needs
-
 loop-holds : tie.Need-loop-holds Inv-loop μ-loop
 loop-holds c = (below-none _, omega arith)
 
-add-m : tie.Need-add-m Inv-loop μ-loop
-add-m c = omega arith
-
 rem-m : tie.Need-rem-m Inv-loop μ-loop
 rem-m c = omega arith
-
-slice-aggregate-is-ready-in : tie.Need-slice-aggregate-is-ready-in Inv-loop μ-loop
-slice-aggregate-is-ready-in c = search needs
-
-slice-aggregate-is-ready-in-2 : tie.Need-slice-aggregate-is-ready-in-2 Inv-loop μ-loop
-slice-aggregate-is-ready-in-2 c = search needs
-
-slice-aggregate-is-ready-in-3 : tie.Need-slice-aggregate-is-ready-in-3 Inv-loop μ-loop
-slice-aggregate-is-ready-in-3 c = search needs
-
-slice-aggregate-is-ready-in-4 : tie.Need-slice-aggregate-is-ready-in-4 Inv-loop μ-loop
-slice-aggregate-is-ready-in-4 c = search needs
-
-slice-aggregate-is-ready-in-5 : tie.Need-slice-aggregate-is-ready-in-5 Inv-loop μ-loop
-slice-aggregate-is-ready-in-5 c = search needs
-
-slice-aggregate-is-ready-in-6 : tie.Need-slice-aggregate-is-ready-in-6 Inv-loop μ-loop
-slice-aggregate-is-ready-in-6 c = search needs
-
-slice-aggregate-is-ready-in-7 : tie.Need-slice-aggregate-is-ready-in-7 Inv-loop μ-loop
-slice-aggregate-is-ready-in-7 c = search needs
-
-is-ready-in-requires : tie.Need-is-ready-in-requires Inv-loop μ-loop
-is-ready-in-requires c κs = search needs
 
 returns : tie.Need-returns Inv-loop μ-loop
 returns c =
@@ -86,12 +56,6 @@ returns c =
     let f = counted l in
     ap (λ (n : ℕ). around n (f .before .args .look) (l .loop .k)) (f .few .ensures)
     ∙ chosen-here _ _ (l .loop .k) (let e = f .few .ensures in omega arith) (sym (looked-at (c .before)) ∙ c .if1 .taken) (passed l)
-
-add-k : tie.Need-add-k Inv-loop μ-loop
-add-k c = omega arith
-
-loop-less : tie.Need-loop-less Inv-loop μ-loop
-loop-less c = omega arith
 
 loop-again : tie.Need-loop-again Inv-loop μ-loop
 loop-again c = (below-more _ _ (loop-of (c .before) .loop .inv .0) (sym (c .before .is-ready-in .ensures) ∙ c .if1 .left), omega arith)
@@ -108,20 +72,20 @@ choice-spec =
     (tie.spec
     Inv-loop
     μ-loop
-    few-requires
+    (λ c κs. search needs)
     loop-holds
-    add-m
+    (λ c. omega arith)
     rem-m
-    slice-aggregate-is-ready-in
-    slice-aggregate-is-ready-in-2
-    slice-aggregate-is-ready-in-3
-    slice-aggregate-is-ready-in-4
-    slice-aggregate-is-ready-in-5
-    slice-aggregate-is-ready-in-6
-    slice-aggregate-is-ready-in-7
-    is-ready-in-requires
+    (λ c. search needs)
+    (λ c. search needs)
+    (λ c. search needs)
+    (λ c. search needs)
+    (λ c. search needs)
+    (λ c. search needs)
+    (λ c. search needs)
+    (λ c κs. search needs)
     returns
-    add-k
-    loop-less
+    (λ c. omega arith)
+    (λ c. omega arith)
     loop-again
     returns-2)

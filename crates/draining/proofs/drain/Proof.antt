@@ -29,29 +29,14 @@ fine-at c =
 undelivered : (c : tie.Then1 Inv-loop μ-loop) → allDelivered (c .before .before .loop .last) ≡ false
 undelivered c = sym (c .before .all-delivered .ensures) ∙ non-true _ (sym (not-non _) ∙ c .if1 .taken)
 
-started-requires : tie.Need-started-requires Inv-loop μ-loop
-started-requires c κs = search needs
-
-enum-known-verdict : tie.Need-enum-known-verdict Inv-loop μ-loop
-enum-known-verdict c = search needs
-
 returns : tie.Need-returns Inv-loop μ-loop
 returns c = started-refused _ _ _ _ (c .before .before .before .before .started .ensures) _ (c .before .verdict .given .1)
-
-enum-told : tie.Need-enum-told Inv-loop μ-loop
-enum-told c = search needs
 
 loop-holds : tie.Need-loop-holds Inv-loop μ-loop
 loop-holds c =
     let s = c .before .before .before in
     let a = s .before .before .before .args in
     rw (started-fresh _ _ _ (a .seed) (s .started .ensures) (c .enum-told .given .1)) (running-fresh _ _ (fine-at c) (a .seed))
-
-all-delivered-requires : tie.Need-all-delivered-requires Inv-loop μ-loop
-all-delivered-requires c κs = search needs
-
-turn-requires : tie.Need-turn-requires Inv-loop μ-loop
-turn-requires c κs = search needs
 
 loop-less : tie.Need-loop-less Inv-loop μ-loop
 loop-less c =
@@ -75,13 +60,13 @@ drain-spec =
     (tie.spec
     Inv-loop
     μ-loop
-    started-requires
-    enum-known-verdict
+    (λ c κs. search needs)
+    (λ c. search needs)
     returns
-    enum-told
+    (λ c. search needs)
     loop-holds
-    all-delivered-requires
-    turn-requires
+    (λ c κs. search needs)
+    (λ c κs. search needs)
     loop-less
     loop-again
     returns-2)

@@ -4,9 +4,6 @@ use native.Mathlib.Omega.{arith}
 use Rattle.format.proofs.body_start.Statement.{statement}
 use Rattle.format.proofs.body_start.Tie as tie
 
-byte-at-requires : tie.Need-byte-at-requires
-byte-at-requires c κs = search needs
-
 mul-result : tie.Need-mul-result
 mul-result c = omega (arith, c .before .shared-slice-known .given 1)
 
@@ -17,4 +14,4 @@ returns : tie.Need-returns
 returns c = (omega arith, omega (arith, c .before .shared-slice-known .given 1))
 
 pub body-start-spec : {M : Type 1} → statement M
-body-start-spec = tie.close (tie.spec byte-at-requires mul-result add-result returns)
+body-start-spec = tie.close (tie.spec (λ c κs. search needs) mul-result add-result returns)

@@ -9,9 +9,6 @@ use Rattle.format.proofs.entry_at.Tie as tie
 returns : tie.Need-returns
 returns c = entry-missing _ _ (λ l k h. omega arith)
 
-byte-at-requires : tie.Need-byte-at-requires
-byte-at-requires c κs = search needs
-
 returns-2 : tie.Need-returns-2
 returns-2 c = entry-missing _ _ (λ l k h. omega arith)
 
@@ -24,30 +21,6 @@ add-if3 c = omega (arith, c .before .before .before .shared-slice-known .given 1
 returns-3 : tie.Need-returns-3
 returns-3 c = entry-missing _ _ (λ l k h. omega arith)
 
-add-t4 : tie.Need-add-t4
-add-t4 c = search needs
-
-shared-slice-read-t8 : tie.Need-shared-slice-read-t8
-shared-slice-read-t8 c = search needs
-
-add-t6 : tie.Need-add-t6
-add-t6 c = search needs
-
-shared-slice-read-t10 : tie.Need-shared-slice-read-t10
-shared-slice-read-t10 c = search needs
-
-add-number-at : tie.Need-add-number-at
-add-number-at c = search needs
-
-number-at-requires : tie.Need-number-at-requires
-number-at-requires c κs = search needs
-
-add-number-at-2 : tie.Need-add-number-at-2
-add-number-at-2 c = search needs
-
-number-at-requires-2 : tie.Need-number-at-requires-2
-number-at-requires-2 c κs = search needs
-
 returns-4 : tie.Need-returns-4
 returns-4 c =
     let a = c .before .before .before .before .before .before .before .before .before .args in
@@ -58,17 +31,17 @@ entry-at-spec =
     tie.close
     (tie.spec
     returns
-    byte-at-requires
+    (λ c κs. search needs)
     returns-2
     mul-at
     add-if3
     returns-3
-    add-t4
-    shared-slice-read-t8
-    add-t6
-    shared-slice-read-t10
-    add-number-at
-    number-at-requires
-    add-number-at-2
-    number-at-requires-2
+    (λ c. search needs)
+    (λ c. search needs)
+    (λ c. search needs)
+    (λ c. search needs)
+    (λ c. search needs)
+    (λ c κs. search needs)
+    (λ c. search needs)
+    (λ c κs. search needs)
     returns-4)

@@ -3,14 +3,8 @@ use borrow.Author.Needs.{needs}
 use Rattle.format.proofs.nodes_in.Statement.{statement}
 use Rattle.format.proofs.nodes_in.Tie as tie
 
-body-start-requires : tie.Need-body-start-requires
-body-start-requires c κs = search needs
-
-byte-at-requires : tie.Need-byte-at-requires
-byte-at-requires c κs = search needs
-
 returns : tie.Need-returns
 returns c = rw (c .byte-at .ensures, c .before .body-start .ensures .0)
 
 pub nodes-in-spec : {M : Type 1} → statement M
-nodes-in-spec = tie.close (tie.spec body-start-requires byte-at-requires returns)
+nodes-in-spec = tie.close (tie.spec (λ c κs. search needs) (λ c κs. search needs) returns)

@@ -13,15 +13,6 @@ returns c =
     let e = number-none (now (a .image)) (a .i) (omega arith) in
     (omega arith, omega arith)
 
-byte-at-requires : tie.Need-byte-at-requires
-byte-at-requires c κs = search needs
-
-add-byte-at : tie.Need-add-byte-at
-add-byte-at c = search needs
-
-byte-at-requires-2 : tie.Need-byte-at-requires-2
-byte-at-requires-2 c κs = search needs
-
 mul-result : tie.Need-mul-result
 mul-result c =
     let i = c .before .before .before .before .args .i in
@@ -45,9 +36,9 @@ number-at-spec =
     tie.close
     (tie.spec
     returns
-    byte-at-requires
-    add-byte-at
-    byte-at-requires-2
+    (λ c κs. search needs)
+    (λ c. search needs)
+    (λ c κs. search needs)
     mul-result
     add-result
     returns-2)

@@ -8,20 +8,11 @@ use borrow.Author.Needs.{needs}
 use Rattle.labels.proofs.better_of.Statement.{statement}
 use Rattle.labels.proofs.better_of.Tie as tie
 
-degree-requires : tie.Need-degree-requires
-degree-requires c κs = search needs
-
 returns : tie.Need-returns
 returns c = not-lower _ _ _ _ (let e = c .before .before .degree .ensures in let l = c .if1 .taken in omega arith)
 
-room-requires : tie.Need-room-requires
-room-requires c κs = search needs
-
 returns-2 : tie.Need-returns-2
 returns-2 c = not-passing _ _ _ _ (no-room _ _ _ _ (sym (c .before .room .ensures) ∙ not-true _ (c .if2 .taken)))
-
-splits-requires : tie.Need-splits-requires
-splits-requires c κs = search needs
 
 returns-3 : tie.Need-returns-3
 returns-3 c = not-passing _ _ _ _ (splitting _ _ _ _ (sym (c .before .splits .ensures) ∙ c .if3 .taken))
@@ -40,4 +31,4 @@ returns-4 c =
 pub better-of-spec : {M : Type 1} → statement M
 better-of-spec =
     tie.close
-    (tie.spec degree-requires returns room-requires returns-2 splits-requires returns-3 returns-4)
+    (tie.spec (λ c κs. search needs) returns (λ c κs. search needs) returns-2 (λ c κs. search needs) returns-3 returns-4)

@@ -29,12 +29,6 @@ abbrev μ-loop : tie.MeasureT-loop
 loop-holds : tie.Need-loop-holds Inv-loop μ-loop
 loop-holds c = (searching-none maxNodes 65 _ _ (degree-low _) (omega arith) (λ u. gone _ _ _ u), λ u t. t)
 
-lowest-requires : tie.Need-lowest-requires Inv-loop μ-loop
-lowest-requires c κs = tt
-
-without-requires : tie.Need-without-requires Inv-loop μ-loop
-without-requires c κs = tt
-
 better-of-requires : tie.Need-better-of-requires Inv-loop μ-loop
 better-of-requires c κs =
     let v = c .before .before in
@@ -67,8 +61,8 @@ choice-spec =
     Inv-loop
     μ-loop
     loop-holds
-    lowest-requires
-    without-requires
+    (λ c κs. tt)
+    (λ c κs. tt)
     better-of-requires
     loop-less
     loop-again

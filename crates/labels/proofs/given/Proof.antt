@@ -5,9 +5,6 @@ use Rattle.rule.specs.Labels.{give}
 use Rattle.labels.proofs.given.Statement.{statement}
 use Rattle.labels.proofs.given.Tie as tie
 
-array-write-next : tie.Need-array-write-next
-array-write-next c = search needs
-
 returns : tie.Need-returns
 unfolding give
 returns c = rw (lt-below (c .if1 .taken), give)
@@ -17,4 +14,4 @@ unfolding give
 returns-2 c = rw (le-below (c .if1 .left), give)
 
 pub given-spec : {M : Type 1} → statement M
-given-spec = tie.close (tie.spec array-write-next returns returns-2)
+given-spec = tie.close (tie.spec (λ c. search needs) returns returns-2)

@@ -19,43 +19,10 @@ Inv-loop n m w₀ rest₀ out₀ k₀ w rest out k =
 abbrev μ-loop : tie.MeasureT-loop
 μ-loop n m w₀ rest₀ out₀ k₀ w rest out k = m - k
 
-capped-requires : tie.Need-capped-requires Inv-loop μ-loop
-capped-requires c κs = tt
-
-first-requires : tie.Need-first-requires Inv-loop μ-loop
-first-requires c κs = tt
-
-restrict-requires : tie.Need-restrict-requires Inv-loop μ-loop
-restrict-requires c κs = tt
-
 loop-holds : tie.Need-loop-holds Inv-loop μ-loop
 loop-holds c =
     let m = c .before .before .capped .ensures in
     (λ t e. giving-none t _ (le-trans (le-of-eq m) (min-le-right _ maxNodes)) (c .before .first .ensures) e, m, omega arith)
-
-choice-requires : tie.Need-choice-requires Inv-loop μ-loop
-choice-requires c κs = tt
-
-add-given : tie.Need-add-given Inv-loop μ-loop
-add-given c = omega arith
-
-cast-given : tie.Need-cast-given Inv-loop μ-loop
-cast-given c = omega arith
-
-given-requires : tie.Need-given-requires Inv-loop μ-loop
-given-requires c κs = tt
-
-strike-requires : tie.Need-strike-requires Inv-loop μ-loop
-strike-requires c κs = tt
-
-without-requires : tie.Need-without-requires Inv-loop μ-loop
-without-requires c κs = tt
-
-add-k : tie.Need-add-k Inv-loop μ-loop
-add-k c = omega arith
-
-loop-less : tie.Need-loop-less Inv-loop μ-loop
-loop-less c = omega arith
 
 loop-again : tie.Need-loop-again Inv-loop μ-loop
 loop-again c =
@@ -81,17 +48,17 @@ labels-spec =
     (tie.spec
     Inv-loop
     μ-loop
-    capped-requires
-    first-requires
-    restrict-requires
+    (λ c κs. tt)
+    (λ c κs. tt)
+    (λ c κs. tt)
     loop-holds
-    choice-requires
-    add-given
-    cast-given
-    given-requires
-    strike-requires
-    without-requires
-    add-k
-    loop-less
+    (λ c κs. tt)
+    (λ c. omega arith)
+    (λ c. omega arith)
+    (λ c κs. tt)
+    (λ c κs. tt)
+    (λ c κs. tt)
+    (λ c. omega arith)
+    (λ c. omega arith)
     loop-again
     returns)

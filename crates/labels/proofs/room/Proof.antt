@@ -34,23 +34,8 @@ Inv-loop t v d sum₀ left₀ sum left = Summing maxNodes (around t) (sumIf maxN
 abbrev μ-loop : tie.MeasureT-loop
 μ-loop t v d sum₀ left₀ sum left = left
 
-degree-requires : tie.Need-degree-requires Inv-loop μ-loop
-degree-requires c κs = tt
-
-row-requires : tie.Need-row-requires Inv-loop μ-loop
-row-requires c κs = tt
-
 loop-holds : tie.Need-loop-holds Inv-loop μ-loop
 loop-holds c = (sum-start _ _ (c .row .ensures), omega arith)
-
-lowest-requires : tie.Need-lowest-requires Inv-loop μ-loop
-lowest-requires c κs = tt
-
-degree-requires-2 : tie.Need-degree-requires-2 Inv-loop μ-loop
-degree-requires-2 c κs = tt
-
-less-one-requires : tie.Need-less-one-requires Inv-loop μ-loop
-less-one-requires c κs = tt
 
 add-sum : tie.Need-add-sum Inv-loop μ-loop
 add-sum c =
@@ -64,9 +49,6 @@ add-sum c =
     let i = l .loop .inv .0 in
     omega arith
 
-without-requires : tie.Need-without-requires Inv-loop μ-loop
-without-requires c κs = tt
-
 loop-less : tie.Need-loop-less Inv-loop μ-loop
 loop-less c =
     let l = c .before .before .before .before .before in
@@ -78,9 +60,6 @@ loop-again c =
     summing-more maxNodes (around (l .before .before .before .before .args .t .now)) _ (l .loop .sum) (l .loop .left) (l .loop .inv)
     (c .before .before .before .before .loop-test .taken) (c .before .before .before .lowest .ensures)
     (c .before .less-one .ensures ∙ ap (λ (x : ℕ). x - 1) (c .before .before .degree2 .ensures)) (c .without .ensures) (omega arith)
-
-less-one-requires-2 : tie.Need-less-one-requires-2 Inv-loop μ-loop
-less-one-requires-2 c κs = tt
 
 mul-result : tie.Need-mul-result Inv-loop μ-loop
 mul-result c =
@@ -106,16 +85,16 @@ room-spec =
     (tie.spec
     Inv-loop
     μ-loop
-    degree-requires
-    row-requires
+    (λ c κs. tt)
+    (λ c κs. tt)
     loop-holds
-    lowest-requires
-    degree-requires-2
-    less-one-requires
+    (λ c κs. tt)
+    (λ c κs. tt)
+    (λ c κs. tt)
     add-sum
-    without-requires
+    (λ c κs. tt)
     loop-less
     loop-again
-    less-one-requires-2
+    (λ c κs. tt)
     mul-result
     returns)

@@ -3,39 +3,30 @@ use mathlib.Core.Path.{_≡_, refl}
 use Prim.Native.Nat.{_-_}
 use native.Mathlib.Omega.{arith}
 use lib.ListN.{length}
-use Rattle.lines.proofs.Whole.{Fields, fields-begin, fields-next, fields-end}
 use borrow.Author.Needs.{needs}
+use Rattle.laid.specs.Laid.{page}
+use Rattle.lines.proofs.Whole.{Fields, fields-begin, fields-next, fields-end}
 use Rattle.lines.proofs.byte_fields.Statement.{statement}
 use Rattle.lines.proofs.byte_fields.Tie as tie
 
 abbrev Inv-loop : tie.InvT-loop
-Inv-loop bytes all₀ i₀ i-end all i = Fields all₀ bytes all i × (i-end ≡ length bytes)
+Inv-loop buffer₀ at bytes end₀ i₀ i-end buffer end i =
+    Fields (page buffer₀ end₀) bytes (page buffer end) i × (i-end ≡ length bytes) × (length buffer ≡ length buffer₀)
 
 abbrev μ-loop : tie.MeasureT-loop
-μ-loop bytes all₀ i₀ i-end all i = i-end - i
+μ-loop buffer₀ at bytes end₀ i₀ i-end buffer end i = i-end - i
 
 loop-holds : tie.Need-loop-holds Inv-loop μ-loop
-loop-holds c = (fields-begin _ _, refl)
-
-shared-slice-read-field : tie.Need-shared-slice-read-field Inv-loop μ-loop
-shared-slice-read-field c = omega arith
+loop-holds c = (fields-begin _ _, refl, refl)
 
 cast-field : tie.Need-cast-field Inv-loop μ-loop
-cast-field c = omega (arith, c .shared-slice-known2 .given (c .before .before .loop .i))
-
-field-requires : tie.Need-field-requires Inv-loop μ-loop
-field-requires c κs = search needs
-
-add-i : tie.Need-add-i Inv-loop μ-loop
-add-i c = omega arith
-
-loop-less : tie.Need-loop-less Inv-loop μ-loop
-loop-less c = omega arith
+cast-field c = omega (arith, c .shared-slice-known2 .given (c .before .before .before .loop .i))
 
 loop-again : tie.Need-loop-again Inv-loop μ-loop
 loop-again c =
-    let l = c .before .before .before in
-    (fields-next (l .loop .inv .0) (omega arith) (c .field .ensures), l .loop .inv .1)
+    let f = c .before .before in
+    let l = f .before .before .before .before in
+    (fields-next (l .loop .inv .0) (omega arith) (f .field .ensures), l .loop .inv .1, search needs)
 
 returns : tie.Need-returns Inv-loop μ-loop
 returns c = fields-end (c .before .loop .inv .0) (omega arith)
@@ -47,10 +38,11 @@ byte-fields-spec =
     Inv-loop
     μ-loop
     loop-holds
-    shared-slice-read-field
+    (λ c. omega arith)
     cast-field
-    field-requires
-    add-i
-    loop-less
+    (λ c κs. search needs)
+    (λ c. omega arith)
+    (λ c. omega arith)
     loop-again
+    (λ c. search needs)
     returns)

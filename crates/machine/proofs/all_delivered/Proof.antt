@@ -19,27 +19,12 @@ Inv-loop messages delivered m₀ m = ((q : ℕ) → q < m → non (same (getD de
 abbrev μ-loop : tie.MeasureT-loop
 μ-loop messages delivered m₀ m = messages - m
 
-few-requires : tie.Need-few-requires Inv-loop μ-loop
-few-requires c κs = search needs
-
 loop-holds : tie.Need-loop-holds Inv-loop μ-loop
 loop-holds c = (below-none _, omega arith)
-
-slice-aggregate-marked : tie.Need-slice-aggregate-marked Inv-loop μ-loop
-slice-aggregate-marked c = search needs
-
-marked-requires : tie.Need-marked-requires Inv-loop μ-loop
-marked-requires c κs = search needs
 
 returns : tie.Need-returns Inv-loop μ-loop
 unfolding isDelivered
 returns c = one-undelivered _ _ (omega arith) (sym (c .before .marked .ensures) ∙ non-true _ (sym (not-non _) ∙ c .if1 .taken))
-
-add-m : tie.Need-add-m Inv-loop μ-loop
-add-m c = omega arith
-
-loop-less : tie.Need-loop-less Inv-loop μ-loop
-loop-less c = omega arith
 
 loop-again : tie.Need-loop-again Inv-loop μ-loop
 loop-again c = (below-more _ _ (c .before .before .before .before .loop .inv .0) (sym (c .before .marked .ensures) ∙ non-false _ (sym (not-non _) ∙ c .if1 .left)), omega arith)
@@ -49,4 +34,4 @@ unfolding isDelivered
 returns-2 c = every-delivered _ (λ q l. c .before .loop .inv .0 q (omega arith))
 
 pub all-delivered-spec : {M : Type 1} → statement M
-all-delivered-spec = tie.close (tie.spec Inv-loop μ-loop few-requires loop-holds slice-aggregate-marked marked-requires returns add-m loop-less loop-again returns-2)
+all-delivered-spec = tie.close (tie.spec Inv-loop μ-loop (λ c κs. search needs) loop-holds (λ c. search needs) (λ c κs. search needs) returns (λ c. omega arith) (λ c. omega arith) loop-again returns-2)

@@ -4,21 +4,6 @@ use borrow.Author.Needs.{needs}
 use Rattle.machine.proofs.arrive.Statement.{statement}
 use Rattle.machine.proofs.arrive.Tie as tie
 
-add-release : tie.Need-add-release
-add-release c = search needs
-
-cast-release : tie.Need-cast-release
-cast-release c = search needs
-
-release-requires : tie.Need-release-requires
-release-requires c κs = search needs
-
-put-requires : tie.Need-put-requires
-put-requires c κs = search needs
-
-count-requires : tie.Need-count-requires
-count-requires c κs = search needs
-
 returns : tie.Need-returns
 returns c =
     let b = c .before .before .before in
@@ -28,4 +13,4 @@ returns c =
 pub arrive-spec : {M : Type 1} → statement M
 arrive-spec =
     tie.close
-    (tie.spec add-release cast-release release-requires put-requires count-requires returns)
+    (tie.spec (λ c. search needs) (λ c. search needs) (λ c κs. search needs) (λ c κs. search needs) (λ c κs. search needs) returns)

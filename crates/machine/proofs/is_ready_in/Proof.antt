@@ -12,18 +12,9 @@ use borrow.Author.Needs.{needs}
 use Rattle.machine.proofs.is_ready_in.Statement.{statement}
 use Rattle.machine.proofs.is_ready_in.Tie as tie
 
-marked-requires : tie.Need-marked-requires
-marked-requires c κs = search needs
-
 returns : tie.Need-returns
 unfolding isDelivered
 returns c = ready-never _ _ (sym (c .before .marked .ensures) ∙ c .if1 .taken)
-
-byte-requires : tie.Need-byte-requires
-byte-requires c κs = search needs
-
-byte-requires-2 : tie.Need-byte-requires-2
-byte-requires-2 c κs = search needs
 
 returns-2 : tie.Need-returns-2
 unfolding isDelivered
@@ -32,15 +23,6 @@ returns-2 c =
     let h = t .before in
     let d = h .before in
     ready-there _ _ (sym (d .before .marked .ensures) ∙ d .if1 .left) (eq-same (sym (h .byte .ensures) ∙ c .if2 .taken ∙ t .byte2 .ensures))
-
-next-in-requires : tie.Need-next-in-requires
-next-in-requires c κs = search needs
-
-channel-requires : tie.Need-channel-requires
-channel-requires c κs = search needs
-
-held-requires : tie.Need-held-requires
-held-requires c κs = search needs
 
 returns-3 : tie.Need-returns-3
 unfolding isDelivered same
@@ -62,12 +44,12 @@ pub is-ready-in-spec : {M : Type 1} → statement M
 is-ready-in-spec =
     tie.close
     (tie.spec
-    marked-requires
+    (λ c κs. search needs)
     returns
-    byte-requires
-    byte-requires-2
+    (λ c κs. search needs)
+    (λ c κs. search needs)
     returns-2
-    next-in-requires
-    channel-requires
-    held-requires
+    (λ c κs. search needs)
+    (λ c κs. search needs)
+    (λ c κs. search needs)
     returns-3)

@@ -10,31 +10,16 @@ use borrow.Author.Needs.{needs}
 use Rattle.machine.proofs.step.Statement.{statement}
 use Rattle.machine.proofs.step.Tie as tie
 
-refused-requires : tie.Need-refused-requires
-refused-requires c κs = search needs
-
 returns : tie.Need-returns
 returns c = c .refused .ensures ∙ sym (step-none _ _ (c .before .if1 .taken))
 
-refused-requires-2 : tie.Need-refused-requires-2
-refused-requires-2 c κs = search needs
-
 returns-2 : tie.Need-returns-2
 returns-2 c = c .refused2 .ensures ∙ sym (step-many _ _ (c .before .if2 .taken))
-
-is-delivered-requires : tie.Need-is-delivered-requires
-is-delivered-requires c κs = search needs
 
 returns-3 : tie.Need-returns-3
 returns-3 c =
     let f = c .before .before in
     sym (step-already _ _ (f .before .if1 .left) (f .if2 .left) (sym (c .before .is-delivered .ensures) ∙ c .if3 .taken))
-
-is-there-requires : tie.Need-is-there-requires
-is-there-requires c κs = search needs
-
-arrive-requires : tie.Need-arrive-requires
-arrive-requires c κs = search needs
 
 returns-4 : tie.Need-returns-4
 returns-4 c =
@@ -45,15 +30,6 @@ returns-4 c =
     ∙ sym (step-delivered _ _ (f .before .if1 .left) (f .if2 .left) (sym (d .before .is-delivered .ensures) ∙ d .if3 .left)
     (same-eq _ _ (sym (t .before .is-there .ensures) ∙ t .if4 .taken)))
 
-next-holder-requires : tie.Need-next-holder-requires
-next-holder-requires c κs = search needs
-
-cast-holder : tie.Need-cast-holder
-cast-holder c = search needs
-
-sub-by : tie.Need-sub-by
-sub-by c = search needs
-
 returns-5 : tie.Need-returns-5
 returns-5 c =
     let h = c .before in
@@ -63,9 +39,6 @@ returns-5 c =
     ap (λ (x : ℕ). with (f .before .before .before .args .«record») (Blocked (x - 1))) (h .next-holder .ensures)
     ∙ sym (step-blocked _ _ (f .before .if1 .left) (f .if2 .left) (sym (d .before .is-delivered .ensures) ∙ d .if3 .left)
     (same-ne _ _ (sym (e .before .is-there .ensures) ∙ e .if4 .left)) (λ q. c .if5 .taken (h .next-holder .ensures ∙ q)))
-
-advance-requires : tie.Need-advance-requires
-advance-requires c κs = search needs
 
 returns-6 : tie.Need-returns-6
 returns-6 c =
@@ -81,18 +54,18 @@ pub step-spec : {M : Type 1} → statement M
 step-spec =
     tie.close
     (tie.spec
-    refused-requires
+    (λ c κs. search needs)
     returns
-    refused-requires-2
+    (λ c κs. search needs)
     returns-2
-    is-delivered-requires
+    (λ c κs. search needs)
     returns-3
-    is-there-requires
-    arrive-requires
+    (λ c κs. search needs)
+    (λ c κs. search needs)
     returns-4
-    next-holder-requires
-    cast-holder
-    sub-by
+    (λ c κs. search needs)
+    (λ c. search needs)
+    (λ c. search needs)
     returns-5
-    advance-requires
+    (λ c κs. search needs)
     returns-6)

@@ -9,15 +9,9 @@ use Rattle.network.specs.Table.{edgeOf}
 use Rattle.network.proofs.degree.Statement.{statement}
 use Rattle.network.proofs.degree.Tie as tie
 
-row-requires : tie.Need-row-requires
-row-requires c κs = search needs
-
-size-requires : tie.Need-size-requires
-size-requires c κs = search needs
-
 returns : tie.Need-returns
 unfolding edgeOf
 returns c = c .size .ensures ∙ ap (λ (w : ℕ). count maxNodes (has w)) (c .before .row .ensures)
 
 pub degree-spec : {M : Type 1} → statement M
-degree-spec = tie.close (tie.spec row-requires size-requires returns)
+degree-spec = tie.close (tie.spec (λ c κs. search needs) (λ c κs. search needs) returns)

@@ -23,24 +23,6 @@ abbrev μ-loop : tie.MeasureT-loop
 loop-holds : tie.Need-loop-holds Inv-loop μ-loop
 loop-holds c = (flood-none maxNodes _ _, c .before .fits .start .fits, c .before .fits .start .fits)
 
-lowest-requires : tie.Need-lowest-requires Inv-loop μ-loop
-lowest-requires c κs = tt
-
-row-requires : tie.Need-row-requires Inv-loop μ-loop
-row-requires c κs = tt
-
-difference-requires : tie.Need-difference-requires Inv-loop μ-loop
-difference-requires c κs = tt
-
-union-requires : tie.Need-union-requires Inv-loop μ-loop
-union-requires c κs = tt
-
-without-requires : tie.Need-without-requires Inv-loop μ-loop
-without-requires c κs = tt
-
-union-requires-2 : tie.Need-union-requires-2 Inv-loop μ-loop
-union-requires-2 c κs = tt
-
 -- a turn, as a visit
 turn : (c : tie.After-union2 Inv-loop μ-loop) →
     let l = c .before .before .before .before .before .before .before in
@@ -79,12 +61,12 @@ flood-spec =
     Inv-loop
     μ-loop
     loop-holds
-    lowest-requires
-    row-requires
-    difference-requires
-    union-requires
-    without-requires
-    union-requires-2
+    (λ c κs. tt)
+    (λ c κs. tt)
+    (λ c κs. tt)
+    (λ c κs. tt)
+    (λ c κs. tt)
+    (λ c κs. tt)
     loop-less
     loop-again
     returns)

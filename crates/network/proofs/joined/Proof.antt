@@ -13,18 +13,6 @@ use Rattle.nodes.specs.Limits.{maxNodes}
 use Rattle.network.proofs.joined.Statement.{statement}
 use Rattle.network.proofs.joined.Tie as tie
 
-lowest-requires : tie.Need-lowest-requires
-lowest-requires c κs = search needs
-
-one-requires : tie.Need-one-requires
-one-requires c κs = search needs
-
-flood-requires : tie.Need-flood-requires
-flood-requires c κs = search needs
-
-difference-requires : tie.Need-difference-requires
-difference-requires c κs = search needs
-
 returns : tie.Need-returns
 unfolding joined
 returns c =
@@ -36,4 +24,4 @@ returns c =
     ap (λ (w : ℕ). has w v) (o .one .ensures) ∙ has-setOf maxNodes _ v l ∙ ap (λ (x : ℕ). same x v) (o .before .lowest .ensures)))
 
 pub joined-spec : {M : Type 1} → statement M
-joined-spec = tie.close (tie.spec lowest-requires one-requires flood-requires difference-requires returns)
+joined-spec = tie.close (tie.spec (λ c κs. search needs) (λ c κs. search needs) (λ c κs. search needs) (λ c κs. search needs) returns)

@@ -5,12 +5,6 @@ use Rattle.network.proofs.Table.{kept-none, kept-some}
 use Rattle.network.proofs.kept_row.Statement.{statement}
 use Rattle.network.proofs.kept_row.Tie as tie
 
-has-requires : tie.Need-has-requires
-has-requires c κs = search needs
-
-common-requires : tie.Need-common-requires
-common-requires c κs = search needs
-
 returns : tie.Need-returns
 returns c = c .common .ensures ∙ kept-some _ _ _ (sym (c .before .before .has .ensures) ∙ c .before .if1 .taken)
 
@@ -18,4 +12,4 @@ returns-2 : tie.Need-returns-2
 returns-2 c = kept-none _ _ _ (sym (c .before .has .ensures) ∙ c .if1 .left)
 
 pub kept-row-spec : {M : Type 1} → statement M
-kept-row-spec = tie.close (tie.spec has-requires common-requires returns returns-2)
+kept-row-spec = tie.close (tie.spec (λ c κs. search needs) (λ c κs. search needs) returns returns-2)

@@ -16,27 +16,6 @@ abbrev μ-loop : tie.MeasureT-loop
 loop-holds : tie.Need-loop-holds Inv-loop μ-loop
 loop-holds c = (restrict-none _ _ (omega arith), omega arith)
 
-mul-kept-row : tie.Need-mul-kept-row Inv-loop μ-loop
-mul-kept-row c = omega arith
-
-array-read-kept-row : tie.Need-array-read-kept-row Inv-loop μ-loop
-array-read-kept-row c = omega arith
-
-kept-row-requires : tie.Need-kept-row-requires Inv-loop μ-loop
-kept-row-requires c κs = tt
-
-mul-rest : tie.Need-mul-rest Inv-loop μ-loop
-mul-rest c = omega arith
-
-array-write-rest : tie.Need-array-write-rest Inv-loop μ-loop
-array-write-rest c = omega arith
-
-add-u : tie.Need-add-u Inv-loop μ-loop
-add-u c = omega arith
-
-loop-less : tie.Need-loop-less Inv-loop μ-loop
-loop-less c = omega arith
-
 loop-again : tie.Need-loop-again Inv-loop μ-loop
 loop-again c = (restrict-more _ (c .before .before .loop .inv .0) (omega arith) (c .kept-row .ensures), omega arith)
 
@@ -50,12 +29,12 @@ restrict-spec =
     Inv-loop
     μ-loop
     loop-holds
-    mul-kept-row
-    array-read-kept-row
-    kept-row-requires
-    mul-rest
-    array-write-rest
-    add-u
-    loop-less
+    (λ c. omega arith)
+    (λ c. omega arith)
+    (λ c κs. tt)
+    (λ c. omega arith)
+    (λ c. omega arith)
+    (λ c. omega arith)
+    (λ c. omega arith)
     loop-again
     returns)

@@ -15,18 +15,6 @@ use Rattle.network.proofs.Table.{edge-tableFrom}
 use Rattle.network.proofs.splits.Statement.{statement}
 use Rattle.network.proofs.splits.Tie as tie
 
-strike-requires : tie.Need-strike-requires
-strike-requires c κs = search needs
-
-slice-aggregate-joined : tie.Need-slice-aggregate-joined
-slice-aggregate-joined c = search needs
-
-without-requires : tie.Need-without-requires
-without-requires c κs = search needs
-
-joined-requires : tie.Need-joined-requires
-joined-requires c κs = search needs
-
 returns : tie.Need-returns
 unfolding splits
 returns c =
@@ -41,4 +29,4 @@ returns c =
 pub splits-spec : {M : Type 1} → statement M
 splits-spec =
     tie.close
-    (tie.spec strike-requires slice-aggregate-joined without-requires joined-requires returns)
+    (tie.spec (λ c κs. search needs) (λ c. search needs) (λ c κs. search needs) (λ c κs. search needs) returns)

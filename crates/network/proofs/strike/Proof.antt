@@ -9,12 +9,6 @@ use Rattle.network.proofs.Table.{tableFrom-cong, others}
 use Rattle.network.proofs.strike.Statement.{statement}
 use Rattle.network.proofs.strike.Tie as tie
 
-without-requires : tie.Need-without-requires
-without-requires c κs = search needs
-
-restrict-requires : tie.Need-restrict-requires
-restrict-requires c κs = search needs
-
 returns : tie.Need-returns
 unfolding avoid among
 returns c = c .restrict .ensures ∙ tableFrom-cong _ _ (λ a b k l.
@@ -22,4 +16,4 @@ returns c = c .restrict .ensures ∙ tableFrom-cong _ _ (λ a b k l.
     (others _ (c .before .without .ensures) b l))
 
 pub strike-spec : {M : Type 1} → statement M
-strike-spec = tie.close (tie.spec without-requires restrict-requires returns)
+strike-spec = tie.close (tie.spec (λ c κs. search needs) (λ c κs. search needs) returns)

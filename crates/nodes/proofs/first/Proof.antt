@@ -9,9 +9,6 @@ use Rattle.nodes.proofs.Words.{first-word, first-all}
 use Rattle.nodes.proofs.first.Statement.{statement}
 use Rattle.nodes.proofs.first.Tie as tie
 
-shl-result : tie.Need-shl-result
-shl-result c = search needs
-
 returns : tie.Need-returns
 returns c = first-word maxNodes (c .before .args .n) (c .if1 .taken)
 
@@ -23,4 +20,4 @@ sub-result c =
     subst⁻¹ (λ (x : ℕ). 1 ≤ x) (ap (λ (x : ℕ). x % 2 ^ maxNodes) (one-mul _) ∙ mod-eq-of-lt (pow-lt (c .if1 .taken))) (pow-pos _)
 
 pub first-spec : {M : Type 1} → statement M
-first-spec = tie.close (tie.spec shl-result sub-result returns returns-2)
+first-spec = tie.close (tie.spec (λ c. search needs) sub-result returns returns-2)

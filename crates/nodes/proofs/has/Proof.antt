@@ -7,9 +7,6 @@ use Rattle.nodes.specs.Limits.{maxNodes}
 use Rattle.nodes.proofs.has.Statement.{statement}
 use Rattle.nodes.proofs.has.Tie as tie
 
-shr-result : tie.Need-shr-result
-shr-result c = search needs
-
 returns : tie.Need-returns
 unfolding has
 returns c = refl
@@ -18,4 +15,4 @@ returns-2 : tie.Need-returns-2
 returns-2 c = sym (has-out (c .before .args .w) maxNodes (c .before .args .v) (c .before .fits .w .fits) (c .if1 .left))
 
 pub has-spec : {M : Type 1} → statement M
-has-spec = tie.close (tie.spec shr-result returns returns-2)
+has-spec = tie.close (tie.spec (λ c. search needs) returns returns-2)

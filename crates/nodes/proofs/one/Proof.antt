@@ -5,9 +5,6 @@ use Rattle.nodes.proofs.Words.{one-word, one-out}
 use Rattle.nodes.proofs.one.Statement.{statement}
 use Rattle.nodes.proofs.one.Tie as tie
 
-shl-result : tie.Need-shl-result
-shl-result c = search needs
-
 returns : tie.Need-returns
 returns c = one-word maxNodes (c .before .args .v) (c .if1 .taken)
 
@@ -15,4 +12,4 @@ returns-2 : tie.Need-returns-2
 returns-2 c = one-out maxNodes (c .before .args .v) (c .if1 .left)
 
 pub one-spec : {M : Type 1} → statement M
-one-spec = tie.close (tie.spec shl-result returns returns-2)
+one-spec = tie.close (tie.spec (λ c. search needs) returns returns-2)

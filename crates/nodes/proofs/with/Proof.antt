@@ -8,13 +8,10 @@ use Rattle.nodes.proofs.Words.{or-setOf}
 use Rattle.nodes.proofs.with.Statement.{statement}
 use Rattle.nodes.proofs.with.Tie as tie
 
-one-requires : tie.Need-one-requires
-one-requires c κs = search needs
-
 returns : tie.Need-returns
 returns c =
     let a = c .before .args in
     ap (bitOr (a .w)) (c .one .ensures) ∙ or-setOf maxNodes (a .w) (same (a .v)) (c .before .fits .w .fits)
 
 pub with-spec : {M : Type 1} → statement M
-with-spec = tie.close (tie.spec one-requires returns)
+with-spec = tie.close (tie.spec (λ c κs. search needs) returns)

@@ -9,12 +9,6 @@ use Rattle.nodes.proofs.Words.{member-rest, without-none}
 use Rattle.nodes.proofs.without.Statement.{statement}
 use Rattle.nodes.proofs.without.Tie as tie
 
-has-requires : tie.Need-has-requires
-has-requires c κs = search needs
-
-one-requires : tie.Need-one-requires
-one-requires c κs = search needs
-
 -- the word is what `one` answers and the rest
 parts : (c : tie.After-one) →
     let s = c .before .before .before in
@@ -36,4 +30,4 @@ returns-2 c =
     without-none maxNodes (s .args .w) (s .args .v) (s .fits .w .fits) (sym (c .before .has .ensures) ∙ c .if1 .left)
 
 pub without-spec : {M : Type 1} → statement M
-without-spec = tie.close (tie.spec has-requires one-requires sub-result returns returns-2)
+without-spec = tie.close (tie.spec (λ c κs. search needs) (λ c κs. search needs) sub-result returns returns-2)

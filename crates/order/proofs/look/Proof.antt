@@ -9,15 +9,9 @@ returns : tie.Need-returns
 unfolding lookAt
 returns c = rw (eq-same (c .if1 .taken), lookAt)
 
-cast-result : tie.Need-cast-result
-cast-result c = search needs
-
-rem-result : tie.Need-rem-result
-rem-result c = search needs
-
 returns-2 : tie.Need-returns-2
 unfolding lookAt
 returns-2 c = rw (ne-same (c .if1 .left), lookAt)
 
 pub look-spec : {M : Type 1} → statement M
-look-spec = tie.close (tie.spec returns cast-result rem-result returns-2)
+look-spec = tie.close (tie.spec returns (λ c. search needs) (λ c. search needs) returns-2)

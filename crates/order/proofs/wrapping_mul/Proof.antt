@@ -16,18 +16,6 @@ abbrev μ-loop : tie.MeasureT-loop
 loop-holds : tie.Need-loop-holds Inv-loop μ-loop
 loop-holds c = (ap (λ (x : ℕ). x % 2 ^ 32) (zero-add _), omega arith)
 
-picked-requires : tie.Need-picked-requires Inv-loop μ-loop
-picked-requires c κs = tt
-
-wrapping-add-u32-requires : tie.Need-wrapping-add-u32-requires Inv-loop μ-loop
-wrapping-add-u32-requires c κs = tt
-
-wrapping-add-u32-requires-2 : tie.Need-wrapping-add-u32-requires-2 Inv-loop μ-loop
-wrapping-add-u32-requires-2 c κs = tt
-
-loop-less : tie.Need-loop-less Inv-loop μ-loop
-loop-less c = omega arith
-
 loop-again : tie.Need-loop-again Inv-loop μ-loop
 loop-again c =
     let p = c .before .before in
@@ -52,9 +40,9 @@ wrapping-mul-spec =
     Inv-loop
     μ-loop
     loop-holds
-    picked-requires
-    wrapping-add-u32-requires
-    wrapping-add-u32-requires-2
-    loop-less
+    (λ c κs. tt)
+    (λ c κs. tt)
+    (λ c κs. tt)
+    (λ c. omega arith)
     loop-again
     returns)

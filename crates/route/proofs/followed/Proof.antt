@@ -1,60 +1,45 @@
--- `route::followed` meets its contract. The invariant: what is held, and the nodes still to come, are the whole route.
+-- `route::followed` meets its contract. The invariant: what is laid, and the nodes from the message's place on, are the whole route.
+use mathlib.Core.Path.{_≡_, refl}
 use Prim.Native.Nat.{_-_, _≤_}
 use native.Mathlib.Omega.{arith}
-use lib.Dec.{lit≤}
-use Rattle.rule.specs.Labels.{labelIn}
-use Rattle.route.specs.Follow.{stored, anywhere, mostHops, followed}
-use Rattle.route.proofs.Following.{Following, following-none, following-more, following-there, following-all}
+use lib.ListN.{length}
+use Rattle.laid.specs.Laid.{page}
+use Rattle.route.proofs.Following.{Following, following-none, following-all, following-there, following-more}
 use borrow.Author.Needs.{needs}
 use Rattle.route.proofs.followed.Statement.{statement}
 use Rattle.route.proofs.followed.Tie as tie
 
 abbrev Inv-loop : tie.InvT-loop
-Inv-loop labels free falling n s t g₀ v₀ class₀ k₀ g v class k =
-    Following anywhere (labelIn labels) (stored free falling n t) t (followed labels free falling n s t) mostHops g class v k × (k ≤ mostHops)
+Inv-loop s t buffer₀ n labels free falling p₀ at₀ k₀ k-end buffer p at k =
+    Following (record { nodes = n; labels = labels; free = free; falling = falling }) s t buffer₀ (page buffer at) p k × (k ≤ k-end) × (length buffer ≡ length buffer₀)
 
 abbrev μ-loop : tie.MeasureT-loop
-μ-loop labels free falling n s t g₀ v₀ class₀ k₀ g v class k = mostHops - k
-
-empty-requires : tie.Need-empty-requires Inv-loop μ-loop
-empty-requires c κs = search needs
-
-byte-requires : tie.Need-byte-requires Inv-loop μ-loop
-byte-requires c κs = search needs
+μ-loop s t buffer₀ n labels free falling p₀ at₀ k₀ k-end buffer p at k = k-end - k
 
 loop-holds : tie.Need-loop-holds Inv-loop μ-loop
-unfolding followed
-loop-holds c = (following-none _ _ _ _ mostHops (c .before .empty .ensures) (c .byte .ensures), omega arith)
+loop-holds c = (following-none _ _ _ _, omega arith, refl)
 
 returns : tie.Need-returns Inv-loop μ-loop
-returns c = let l = c .before .before .loop in let k = l .inv .1 in following-there _ _ _ _ 129 (l .inv .0) (c .if1 .taken) (omega arith)
+returns c =
+    let b = c .before .before .before .before in
+    let l = b .before .before .before in
+    following-there _ _ _ (l .loop .inv .0) (omega arith) (l .before .before .before .before .before .pre .1) (b .byte .ensures) (c .if1 .taken)
 
-next-requires : tie.Need-next-requires Inv-loop μ-loop
-next-requires c κs = c .before .before .before .before .before .before .before .before .pre
-
-stays-free-requires : tie.Need-stays-free-requires Inv-loop μ-loop
-stays-free-requires c κs = search needs
-
-byte-requires-2 : tie.Need-byte-requires-2 Inv-loop μ-loop
-byte-requires-2 c κs = search needs
-
-add-k : tie.Need-add-k Inv-loop μ-loop
-add-k c = omega arith
-
-loop-less : tie.Need-loop-less Inv-loop μ-loop
-loop-less c = omega arith
+hop-requires : tie.Need-hop-requires Inv-loop μ-loop
+hop-requires c κs = c .before .before .before .before .before .before .before .before .before .before .before .before .before .before .before .pre .0
 
 loop-again : tie.Need-loop-again Inv-loop μ-loop
 loop-again c =
-    let hop = c .before .before in
-    let on = hop .before .before in
-    let i = on .before .loop .inv in (
-      following-more _ _ _ _ (i .0) (hop .before .if1 .left) (omega arith) (lit≤ tt) (hop .next .ensures) (c .before .stays-free .ensures) (c .byte2 .ensures),
+    let away = c .before .before .before .before in
+    let b = away .before .before .before .before in
+    let l = b .before .before .before in (
+      following-more _ _ _ (l .loop .inv .0) (omega arith) (l .before .before .before .before .before .pre .1) (b .byte .ensures) (away .if1 .left) (c .hop .ensures),
       omega arith,
+      search needs,
     )
 
 returns-2 : tie.Need-returns-2 Inv-loop μ-loop
-returns-2 c = let l = c .before .loop in let k = l .inv .1 in following-all _ _ _ _ 129 (l .inv .0) (omega arith) (omega arith)
+returns-2 c = following-all _ _ _ (c .before .loop .inv .0) (omega arith)
 
 pub followed-spec : {M : Type 1} → statement M
 followed-spec =
@@ -62,14 +47,18 @@ followed-spec =
     (tie.spec
     Inv-loop
     μ-loop
-    empty-requires
-    byte-requires
+    (λ c. omega arith)
+    (λ c. omega arith)
     loop-holds
+    (λ c κs. search needs)
+    (λ c. search needs)
     returns
-    next-requires
-    stays-free-requires
-    byte-requires-2
-    add-k
-    loop-less
+    (λ c. search needs)
+    (λ c. search needs)
+    (λ c. search needs)
+    hop-requires
+    (λ c. omega arith)
+    (λ c. omega arith)
     loop-again
+    (λ c. search needs)
     returns-2)

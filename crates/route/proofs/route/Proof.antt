@@ -1,99 +1,74 @@
 -- `route::route` meets its contract: the image, the two nodes, and then the route, placed.
-use mathlib.Core.Path.{_≡_, sym, _∙_, ap, ap₂}
-use mathlib.Core.List.{List, _∷_}
+use mathlib.Core.Path.{sym, _∙_}
 use mathlib.Core.Logic.{inl, inr}
-use Prim.Native.Nat.{ℕ}
 use native.Mathlib.Omega.{arith}
+use lib.ListN.{length-take}
 use denote.Ref.{now}
-use lib.ListN.{length}
-use Rattle.nodes.specs.Limits.{maxNodes}
-use Rattle.refusal.specs.declared.Verdict.the-variants.{Fine}
-use Rattle.cabling.specs.Cabling.{links}
-use Rattle.lawful.specs.Entry.{routeOf}
 use Rattle.written.proofs.Placed.{fault-writes, fine-writes}
-use Rattle.image.specs.Image.{labelOf}
-use Rattle.image.specs.Calls.{imageFault}
-use Rattle.image.proofs.Images.{accepted-good}
-use Rattle.route.proofs.Cases.{image-refused, ends-refused, not-refused}
+use Rattle.fabric.proofs.Making.{made-verdict}
+use Rattle.image.proofs.Faults.{then-fault}
+use Rattle.laid.proofs.Pieces.{lays-front}
+use Rattle.route.proofs.Cases.{ends-refused, not-refused, Opened, opened}
 use borrow.Author.Needs.{needs}
 use Rattle.route.proofs.route.Statement.{statement}
 use Rattle.route.proofs.route.Tie as tie
 
 -- the image was found fine
-image-fine : (c : tie.After-enum-told) → imageFault (now (c .before .before .before .before .before .args .image)) ≡ Fine
-image-fine c = sym (c .before .before .verdict .ensures) ∙ c .enum-told .given .1
-
-verdict-requires : tie.Need-verdict-requires
-verdict-requires c κs = search needs
-
-enum-known-checked : tie.Need-enum-known-checked
-enum-known-checked c = search needs
+image-fine : (c : tie.After-struct-known)
+    → let o = c .before .before .before .before in Opened (now (o .before .before .before .args .image)) (o .«open» .result .fabric)
+image-fine c = let told = c .before .before in opened _ (told .before .before .«open» .ensures) (told .enum-told .given .1)
 
 returns : tie.Need-returns
-returns c = fault-writes (image-refused _ _ _ (sym (c .before .before .before .verdict .ensures) ∙ c .before .checked .given .1))
-
-enum-told : tie.Need-enum-told
-enum-told c = search needs
-
-nodes-in-requires : tie.Need-nodes-in-requires
-nodes-in-requires c κs = search needs
+returns c =
+    let v = c .before in
+    fault-writes (then-fault _ (sym (made-verdict _ (v .before .before .«open» .ensures)) ∙ v .verdict .given .1))
 
 returns-2 : tie.Need-returns-2
-returns-2 c = let e = c .before .nodes-in .ensures in fault-writes (ends-refused _ _ _ (image-fine (c .before .before)) (inl (omega arith)))
+returns-2 c = let o = image-fine (c .before) in fault-writes (ends-refused _ _ _ (o .fine) (inl (omega arith)))
 
 returns-3 : tie.Need-returns-3
-returns-3 c =
-    let n = c .before .before in
-    let e = n .nodes-in .ensures in
-    fault-writes (ends-refused _ _ _ (image-fine (n .before)) (inr (omega arith)))
+returns-3 c = let o = image-fine (c .before .before .before) in fault-writes (ends-refused _ _ _ (o .fine) (inr (omega arith)))
 
-pairs-in-requires : tie.Need-pairs-in-requires
-pairs-in-requires c κs = search needs
+cast-followed : tie.Need-cast-followed
+cast-followed c = let o = image-fine (c .before .before .before) in omega arith
 
-route-bytes-requires : tie.Need-route-bytes-requires
-route-bytes-requires c κs =
-    let n = c .before .before .before in
-    (rw (n .nodes-in .ensures, c .pairs-in .ensures) (accepted-good _ (image-fine (n .before))), omega arith, omega arith)
+cast-followed-2 : tie.Need-cast-followed-2
+cast-followed-2 c = let o = image-fine (c .before .before .before) in omega arith
 
-array-share-prefix-bytes : tie.Need-array-share-prefix-bytes
-array-share-prefix-bytes c = search needs
+followed-requires : tie.Need-followed-requires
+followed-requires c κs = let o = image-fine (c .before .before .before .before) in (o .few, omega arith)
+
+array-share-prefix-nodes : tie.Need-array-share-prefix-nodes
+array-share-prefix-nodes c = lays-front (c .before .followed .ensures) .1
 
 slice-aggregate-place : tie.Need-slice-aggregate-place
-slice-aggregate-place c = let h = c .before .before .route-bytes .ensures in h .len-is ∙ sym (ap length (h .content-is))
-
-place-requires : tie.Need-place-requires
-place-requires c κs = search needs
-
-same-length : tie.Need-same-length
-same-length c = search needs
+slice-aggregate-place c = let h = lays-front (c .before .before .followed .ensures) .1 in simp length-take (omega arith)
 
 returns-4 : tie.Need-returns-4
 returns-4 c =
     let p = c .before .before in
-    let r = p .before .before .before .before in
-    let n = r .before .before .before .before in
-    let s = n .before .before .before .before .before .before in
-    let e = n .nodes-in .ensures in
-    fine-writes (not-refused _ _ _ (image-fine (n .before)) (omega arith) (omega arith))
-    (r .route-bytes .ensures .content-is
-    ∙ ap₂ (λ (x : ℕ) (q : List ℕ). s .args .source ∷ routeOf maxNodes (links q) (labelOf x q) (s .args .source) (s .args .destination)) e (r .before .pairs-in .ensures))
-    (p .place .ensures)
+    let f = p .before .before .before .before in
+    let known = f .before .before in
+    let o = image-fine (known .before .before .before) in
+    fine-writes (not-refused _ _ _ (o .fine) (omega arith) (omega arith))
+    (lays-front (f .followed .ensures) .0 ∙ o .leads _ _ (known .before .before .if1 .left) (known .if2 .left)) (p .place .ensures)
 
 pub route-spec : {M : Type 1} → statement M
 route-spec =
     tie.close
     (tie.spec
-    verdict-requires
-    enum-known-checked
+    (λ c κs. search needs)
+    (λ c. search needs)
     returns
-    enum-told
-    nodes-in-requires
+    (λ c. search needs)
     returns-2
     returns-3
-    pairs-in-requires
-    route-bytes-requires
-    array-share-prefix-bytes
+    cast-followed
+    cast-followed-2
+    (λ c. search needs)
+    followed-requires
+    array-share-prefix-nodes
     slice-aggregate-place
-    place-requires
-    same-length
+    (λ c κs. search needs)
+    (λ c. search needs)
     returns-4)

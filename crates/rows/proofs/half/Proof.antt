@@ -17,9 +17,6 @@ Inv-loop up down linked free falling members₀ entries₀ left₀ members entri
 abbrev μ-loop : tie.MeasureT-loop
 μ-loop up down linked free falling members₀ entries₀ left₀ members entries left = left
 
-difference-requires : tie.Need-difference-requires Inv-loop μ-loop
-difference-requires c κs = tt
-
 -- the array that the struct holds has its length from what owning the struct tells
 loop-holds : tie.Need-loop-holds Inv-loop μ-loop
 loop-holds c =
@@ -27,31 +24,10 @@ loop-holds c =
     let side = b .good .1 .1 .1 .1 .1 .0 in
     halving-none _ _ _ _ _ (omega arith) (sym (length-map (b .args .side .entries) (λ x. x)) ∙ side .1 .1 .1 .0 .1 .0 .1) (b .pre) (c .difference .ensures)
 
-lowest-requires : tie.Need-lowest-requires Inv-loop μ-loop
-lowest-requires c κs = tt
-
-without-requires : tie.Need-without-requires Inv-loop μ-loop
-without-requires c κs = tt
-
-row-requires : tie.Need-row-requires Inv-loop μ-loop
-row-requires c κs = tt
-
-row-requires-2 : tie.Need-row-requires-2 Inv-loop μ-loop
-row-requires-2 c κs = tt
-
-lead-requires : tie.Need-lead-requires Inv-loop μ-loop
-lead-requires c κs = tt
-
-cast-entries : tie.Need-cast-entries Inv-loop μ-loop
-cast-entries c = omega arith
-
 array-write-entries : tie.Need-array-write-entries Inv-loop μ-loop
 array-write-entries c =
     let v = c .before .before .before .before .before in
     rw (v .lowest .ensures) (lowest-lt maxNodes _ (v .before .before .loop .inv .rest) (v .before .loop-test .taken))
-
-with-requires : tie.Need-with-requires Inv-loop μ-loop
-with-requires c κs = tt
 
 less : (c : tie.After-without Inv-loop μ-loop) → c .without .result < c .before .before .before .loop .left
 less c =
@@ -96,16 +72,16 @@ half-spec =
     (tie.spec
     Inv-loop
     μ-loop
-    difference-requires
+    (λ c κs. tt)
     loop-holds
-    lowest-requires
-    without-requires
-    row-requires
-    row-requires-2
-    lead-requires
-    cast-entries
+    (λ c κs. tt)
+    (λ c κs. tt)
+    (λ c κs. tt)
+    (λ c κs. tt)
+    (λ c κs. tt)
+    (λ c. omega arith)
     array-write-entries
-    with-requires
+    (λ c κs. tt)
     loop-less
     loop-again
     loop-less-2

@@ -4,12 +4,6 @@ use borrow.Author.Needs.{needs}
 use Rattle.rows.proofs.hop.Statement.{statement}
 use Rattle.rows.proofs.hop.Tie as tie
 
-row-requires : tie.Need-row-requires
-row-requires c κs = search needs
-
-shared-slice-read-t12 : tie.Need-shared-slice-read-t12
-shared-slice-read-t12 c = search needs
-
 returns : tie.Need-returns
 returns c = hop-known _ _ _ _ _ _ (c .before .before .row .ensures) (c .before .if1 .taken)
 
@@ -17,4 +11,4 @@ returns-2 : tie.Need-returns-2
 returns-2 c = hop-unknown _ _ _ _ _ _ (c .before .row .ensures) (c .if1 .left)
 
 pub hop-spec : {M : Type 1} → statement M
-hop-spec = tie.close (tie.spec row-requires shared-slice-read-t12 returns returns-2)
+hop-spec = tie.close (tie.spec (λ c κs. search needs) (λ c. search needs) returns returns-2)

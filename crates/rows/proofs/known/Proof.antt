@@ -22,9 +22,6 @@ mul-if3 c = let b = square-le (c .before .before .args .n) (omega arith) in omeg
 returns-3 : tie.Need-returns-3
 returns-3 c = sym (fault-unknown _ _ _ _ _ (free-size (c .if3 .taken)))
 
-mul-if4 : tie.Need-mul-if4
-mul-if4 c = search needs
-
 returns-4 : tie.Need-returns-4
 returns-4 c = sym (fault-unknown _ _ _ _ _ (falling-size (c .if4 .taken)))
 
@@ -48,4 +45,4 @@ returns-6 c =
 
 pub known-spec : {M : Type 1} → statement M
 known-spec =
-    tie.close (tie.spec returns returns-2 mul-if3 returns-3 mul-if4 returns-4 returns-5 returns-6)
+    tie.close (tie.spec returns returns-2 mul-if3 returns-3 (λ c. search needs) returns-4 returns-5 returns-6)

@@ -15,23 +15,8 @@ Inv-loop up down found₀ left₀ found left = Sifting (linkedIn up down) left�
 abbrev μ-loop : tie.MeasureT-loop
 μ-loop up down found₀ left₀ found left = left
 
-first-requires : tie.Need-first-requires Inv-loop μ-loop
-first-requires c κs = tt
-
 loop-holds : tie.Need-loop-holds Inv-loop μ-loop
 loop-holds c = sift-none _ _ (word-lt maxNodes _ (c .first .ensures))
-
-lowest-requires : tie.Need-lowest-requires Inv-loop μ-loop
-lowest-requires c κs = tt
-
-one-linked-requires : tie.Need-one-linked-requires Inv-loop μ-loop
-one-linked-requires c κs = tt
-
-union-requires : tie.Need-union-requires Inv-loop μ-loop
-union-requires c κs = tt
-
-without-requires : tie.Need-without-requires Inv-loop μ-loop
-without-requires c κs = tt
 
 loop-less : tie.Need-loop-less Inv-loop μ-loop
 loop-less c =
@@ -56,12 +41,12 @@ linked-nodes-spec =
     (tie.spec
     Inv-loop
     μ-loop
-    first-requires
+    (λ c κs. tt)
     loop-holds
-    lowest-requires
-    one-linked-requires
-    union-requires
-    without-requires
+    (λ c κs. tt)
+    (λ c κs. tt)
+    (λ c κs. tt)
+    (λ c κs. tt)
     loop-less
     loop-again
     returns)

@@ -8,23 +8,11 @@ use borrow.Author.Needs.{needs}
 use Rattle.rows.proofs.one_linked.Statement.{statement}
 use Rattle.rows.proofs.one_linked.Tie as tie
 
-row-requires : tie.Need-row-requires
-row-requires c κs = search needs
-
-one-requires : tie.Need-one-requires
-one-requires c κs = search needs
-
 returns : tie.Need-returns
 unfolding linkedIn
 returns c =
     let r = c .before .before in
     c .one .ensures ∙ one-passes _ _ (or-l _ (true-non (ne-same (λ e. c .before .if1 .taken (r .row .ensures ∙ e)))))
-
-row-requires-2 : tie.Need-row-requires-2
-row-requires-2 c κs = search needs
-
-one-requires-2 : tie.Need-one-requires-2
-one-requires-2 c κs = search needs
 
 returns-2 : tie.Need-returns-2
 unfolding linkedIn
@@ -43,4 +31,4 @@ returns-3 c =
 pub one-linked-spec : {M : Type 1} → statement M
 one-linked-spec =
     tie.close
-    (tie.spec row-requires one-requires returns row-requires-2 one-requires-2 returns-2 returns-3)
+    (tie.spec (λ c κs. search needs) (λ c κs. search needs) returns (λ c κs. search needs) (λ c κs. search needs) returns-2 returns-3)

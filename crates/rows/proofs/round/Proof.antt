@@ -5,15 +5,9 @@ use borrow.Author.Needs.{needs}
 use Rattle.rows.proofs.round.Statement.{statement}
 use Rattle.rows.proofs.round.Tie as tie
 
-half-requires : tie.Need-half-requires
-half-requires c κs = search needs
-
-half-requires-2 : tie.Need-half-requires-2
-half-requires-2 c κs = search needs
-
 returns : tie.Need-returns
 unfolding roundOf
 returns c = search-ext (c .before .half .ensures) (c .half2 .ensures)
 
 pub round-spec : {M : Type 1} → statement M
-round-spec = tie.close (tie.spec half-requires half-requires-2 returns)
+round-spec = tie.close (tie.spec (λ c κs. search needs) (λ c κs. search needs) returns)

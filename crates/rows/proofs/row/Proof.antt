@@ -11,12 +11,6 @@ use borrow.Author.Needs.{needs}
 use Rattle.rows.proofs.row.Statement.{statement}
 use Rattle.rows.proofs.row.Tie as tie
 
-known-requires : tie.Need-known-requires
-known-requires c κs = search needs
-
-slice-aggregate-result : tie.Need-slice-aggregate-result
-slice-aggregate-result c = search needs
-
 returns : tie.Need-returns
 returns c = sym (row-refused _ _ _ _ _ (sym (c .before .before .known .ensures) ∙ not-true _ (c .before .if1 .taken)))
 
@@ -37,20 +31,8 @@ mul-from c = let k = faultless c in let e = row-end _ _ _ _ _ k in let b = squar
 add-to : tie.Need-add-to
 add-to c = let k = faultless c in let e = row-end _ _ _ _ _ k in let b = square-le _ (k .most) in omega arith
 
-sub-result : tie.Need-sub-result
-sub-result c = search needs
-
-part-result-start : tie.Need-part-result-start
-part-result-start c = search needs
-
 part-result-end : tie.Need-part-result-end
 part-result-end c = let k = faultless (c .before) in let e = row-end _ _ _ _ _ k in omega arith
-
-sub-result-2 : tie.Need-sub-result-2
-sub-result-2 c = search needs
-
-part-result-start-2 : tie.Need-part-result-start-2
-part-result-start-2 c = search needs
 
 part-result-end-2 : tie.Need-part-result-end-2
 part-result-end-2 c = let k = faultless (c .before) in let e = row-end _ _ _ _ _ k in omega arith
@@ -65,16 +47,16 @@ pub row-spec : {M : Type 1} → statement M
 row-spec =
     tie.close
     (tie.spec
-    known-requires
-    slice-aggregate-result
+    (λ c κs. search needs)
+    (λ c. search needs)
     returns
     mul-from
     add-to
-    sub-result
-    part-result-start
+    (λ c. search needs)
+    (λ c. search needs)
     part-result-end
-    sub-result-2
-    part-result-start-2
+    (λ c. search needs)
+    (λ c. search needs)
     part-result-end-2
     returns-2
     returns-3)

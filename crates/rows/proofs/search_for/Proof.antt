@@ -22,20 +22,11 @@ loop-holds c = (searching-none (c .before .before .before .pre .0) (c .start .en
 round-requires : tie.Need-round-requires Inv-loop μ-loop
 round-requires c κs = c .before .before .before .before .before .pre .1
 
-still-requires : tie.Need-still-requires Inv-loop μ-loop
-still-requires c κs = tt
-
 returns : tie.Need-returns Inv-loop μ-loop
 returns c =
     let n = c .before in
     let l = n .before .before .before in
     searching-still (omega arith) _ (l .loop .inv .0) (l .loop .inv .1) (n .before .round .ensures) (sym (n .still .ensures) ∙ c .if1 .taken)
-
-add-k : tie.Need-add-k Inv-loop μ-loop
-add-k c = omega arith
-
-loop-less : tie.Need-loop-less Inv-loop μ-loop
-loop-less c = omega arith
 
 loop-again : tie.Need-loop-again Inv-loop μ-loop
 loop-again c =
@@ -57,9 +48,9 @@ search-for-spec =
     start-requires
     loop-holds
     round-requires
-    still-requires
+    (λ c κs. tt)
     returns
-    add-k
-    loop-less
+    (λ c. omega arith)
+    (λ c. omega arith)
     loop-again
     returns-2)

@@ -2,11 +2,11 @@
 use mathlib.Core.Path.{_≡_, sym, ap}
 use Prim.Native.Nat.{_-_, _≤_, min}
 use native.Mathlib.Omega.{arith}
-use lib.ListN.{getD}
+use lib.ListN.{length, getD}
 use Rattle.nodes.specs.Limits.{maxNodes}
 use Rattle.network.specs.Table.{edgeOf}
 use Rattle.rows.specs.declared.Ways.{Ways}
-use Rattle.rows.proofs.Tabling.{Tabling, tabling-none, tabling-more, tabling-all, up-length, down-length}
+use Rattle.rows.proofs.Tabling.{Tabling, tabling-none, tabling-more, tabling-all, up-length, down-length, column-sizes}
 use Rattle.rows.proofs.tables_of.Statement.{statement}
 use Rattle.rows.proofs.tables_of.Tie as tie
 
@@ -16,20 +16,11 @@ Inv-loop t labels n m up down linked free₀ falling₀ d₀ free falling d = Ta
 abbrev μ-loop : tie.MeasureT-loop
 μ-loop t labels n m up down linked free₀ falling₀ d₀ free falling d = m - d
 
-capped-requires : tie.Need-capped-requires Inv-loop μ-loop
-capped-requires c κs = tt
-
-ways-of-requires : tie.Need-ways-of-requires Inv-loop μ-loop
-ways-of-requires c κs = tt
-
 slice-aggregate-linked-nodes : tie.Need-slice-aggregate-linked-nodes Inv-loop μ-loop
 slice-aggregate-linked-nodes c = sym (up-length _ _ (ap (λ (w : Ways). w .up) (c .before .before .before .ways-of .ensures)))
 
 slice-aggregate-linked-nodes-2 : tie.Need-slice-aggregate-linked-nodes-2 Inv-loop μ-loop
 slice-aggregate-linked-nodes-2 c = sym (down-length _ _ (ap (λ (w : Ways). w .down) (c .before .before .before .before .ways-of .ensures)))
-
-linked-nodes-requires : tie.Need-linked-nodes-requires Inv-loop μ-loop
-linked-nodes-requires c κs = tt
 
 loop-holds : tie.Need-loop-holds Inv-loop μ-loop
 loop-holds c =
@@ -46,24 +37,28 @@ slice-aggregate-column-of-2 c = sym (down-length _ _ (c .before .before .before 
 column-of-requires : tie.Need-column-of-requires Inv-loop μ-loop
 column-of-requires c κs = (omega arith, c .before .before .before .before .linked-nodes .ensures)
 
-placed-requires : tie.Need-placed-requires Inv-loop μ-loop
-placed-requires c κs = omega arith
+-- the lengths of the column's two parts
+sizes : (c : tie.After-column-of Inv-loop μ-loop) → (length (c .column-of .result .free) ≡ maxNodes) × (length (c .column-of .result .falling) ≡ maxNodes)
+sizes c = let l = c .before .before .before .before .loop .inv .0 in column-sizes _ _ _ (l .ups) (l .downs) (c .column-of .ensures)
 
-placed-requires-2 : tie.Need-placed-requires-2 Inv-loop μ-loop
-placed-requires-2 c κs = omega arith
+place-requires : tie.Need-place-requires Inv-loop μ-loop
+place-requires c κs =
+    let o = c .before .before .before .before in
+    let l = o .before .before .before .before .loop in
+    (l .inv .0 .few, omega arith, l .inv .0 .frees .size, sizes o .0)
 
-add-d : tie.Need-add-d Inv-loop μ-loop
-add-d c = omega arith
-
-loop-less : tie.Need-loop-less Inv-loop μ-loop
-loop-less c = omega arith
+place-requires-2 : tie.Need-place-requires-2 Inv-loop μ-loop
+place-requires-2 c κs =
+    let o = c .before .before .before .before .before .before .before .before in
+    let l = o .before .before .before .before .loop in
+    (l .inv .0 .few, omega arith, l .inv .0 .falls .size, sizes o .1)
 
 loop-again : tie.Need-loop-again Inv-loop μ-loop
 loop-again c =
-    let p = c .before in
-    let o = p .before .before .before in
-    let l = o .before .before .before .before in
-    (tabling-more _ _ (l .loop .inv .0) (o .column-of .ensures) (p .placed .ensures) (c .placed2 .ensures), omega arith, omega arith)
+    let p = c .before .before .before .before .before in
+    let o = p .before .before .before .before .before in
+    let l = o .before .before .before .before .loop in
+    (tabling-more _ _ (l .inv .0) (o .column-of .ensures) (p .place .ensures) (c .before .place2 .ensures), l .inv .1, omega arith)
 
 returns : tie.Need-returns Inv-loop μ-loop
 returns c =
@@ -76,18 +71,22 @@ tables-of-spec =
     (tie.spec
     Inv-loop
     μ-loop
-    capped-requires
-    ways-of-requires
+    (λ c κs. tt)
+    (λ c κs. tt)
     slice-aggregate-linked-nodes
     slice-aggregate-linked-nodes-2
-    linked-nodes-requires
+    (λ c κs. tt)
     loop-holds
     slice-aggregate-column-of
     slice-aggregate-column-of-2
     column-of-requires
-    placed-requires
-    placed-requires-2
-    add-d
-    loop-less
+    (λ c. sym (c .before .before .before .before .before .before .before .loop .inv .0 .frees .size))
+    (λ c. sym (sizes (c .before .before .before .before) .0))
+    place-requires
+    (λ c. sym (c .before .before .before .before .before .before .before .before .before .before .before .loop .inv .0 .falls .size))
+    (λ c. sym (sizes (c .before .before .before .before .before .before .before .before) .1))
+    place-requires-2
+    (λ c. omega arith)
+    (λ c. omega arith)
     loop-again
     returns)

@@ -21,30 +21,6 @@ abbrev μ-loop : tie.MeasureT-loop
 loop-holds : tie.Need-loop-holds Inv-loop μ-loop
 loop-holds c = (filled-none _ (omega arith), filled-none _ (omega arith), omega arith)
 
-rising-requires : tie.Need-rising-requires Inv-loop μ-loop
-rising-requires c κs = tt
-
-mul-up : tie.Need-mul-up Inv-loop μ-loop
-mul-up c = omega arith
-
-array-write-up : tie.Need-array-write-up Inv-loop μ-loop
-array-write-up c = omega arith
-
-falling-requires : tie.Need-falling-requires Inv-loop μ-loop
-falling-requires c κs = tt
-
-mul-down : tie.Need-mul-down Inv-loop μ-loop
-mul-down c = omega arith
-
-array-write-down : tie.Need-array-write-down Inv-loop μ-loop
-array-write-down c = omega arith
-
-add-v : tie.Need-add-v Inv-loop μ-loop
-add-v c = omega arith
-
-loop-less : tie.Need-loop-less Inv-loop μ-loop
-loop-less c = omega arith
-
 loop-again : tie.Need-loop-again Inv-loop μ-loop
 loop-again c =
     let inv = c .before .before .before .loop .inv in
@@ -61,13 +37,13 @@ ways-of-spec =
     Inv-loop
     μ-loop
     loop-holds
-    rising-requires
-    mul-up
-    array-write-up
-    falling-requires
-    mul-down
-    array-write-down
-    add-v
-    loop-less
+    (λ c κs. tt)
+    (λ c. omega arith)
+    (λ c. omega arith)
+    (λ c κs. tt)
+    (λ c. omega arith)
+    (λ c. omega arith)
+    (λ c. omega arith)
+    (λ c. omega arith)
     loop-again
     returns)

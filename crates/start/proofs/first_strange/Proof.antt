@@ -19,19 +19,10 @@ abbrev μ-loop : tie.MeasureT-loop
 loop-holds : tie.Need-loop-holds Inv-loop μ-loop
 loop-holds c = (below-none _, omega arith)
 
-is-strange-requires : tie.Need-is-strange-requires Inv-loop μ-loop
-is-strange-requires c κs = omega arith
-
 returns : tie.Need-returns Inv-loop μ-loop
 returns c =
     let l = c .before .before .before .loop in
     sym (least-unique _ _ (l .p) (omega arith) (λ h. sym (c .before .is-strange .ensures) ∙ c .if1 .taken) (l .inv .0))
-
-add-p : tie.Need-add-p Inv-loop μ-loop
-add-p c = omega arith
-
-loop-less : tie.Need-loop-less Inv-loop μ-loop
-loop-less c = omega arith
 
 loop-again : tie.Need-loop-again Inv-loop μ-loop
 loop-again c =
@@ -47,9 +38,9 @@ first-strange-spec =
     Inv-loop
     μ-loop
     loop-holds
-    is-strange-requires
+    (λ c κs. omega arith)
     returns
-    add-p
-    loop-less
+    (λ c. omega arith)
+    (λ c. omega arith)
     loop-again
     returns-2)

@@ -7,23 +7,8 @@ use borrow.Author.Needs.{needs}
 use Rattle.start.proofs.is_strange.Statement.{statement}
 use Rattle.start.proofs.is_strange.Tie as tie
 
-mul-byte-at : tie.Need-mul-byte-at
-mul-byte-at c = search needs
-
-byte-at-requires : tie.Need-byte-at-requires
-byte-at-requires c κs = search needs
-
 returns : tie.Need-returns
 returns c = strange-source _ _ _ (let e = c .before .byte-at .ensures in omega arith)
-
-mul-byte-at-2 : tie.Need-mul-byte-at-2
-mul-byte-at-2 c = search needs
-
-add-byte-at : tie.Need-add-byte-at
-add-byte-at c = search needs
-
-byte-at-requires-2 : tie.Need-byte-at-requires-2
-byte-at-requires-2 c κs = search needs
 
 returns-2 : tie.Need-returns-2
 returns-2 c =
@@ -34,10 +19,10 @@ pub is-strange-spec : {M : Type 1} → statement M
 is-strange-spec =
     tie.close
     (tie.spec
-    mul-byte-at
-    byte-at-requires
+    (λ c. search needs)
+    (λ c κs. search needs)
     returns
-    mul-byte-at-2
-    add-byte-at
-    byte-at-requires-2
+    (λ c. search needs)
+    (λ c. search needs)
+    (λ c κs. search needs)
     returns-2)

@@ -15,9 +15,6 @@ returns c = odd-list _ _ (λ e. omega arith)
 returns-2 : tie.Need-returns-2
 returns-2 c = long-list _ _ (omega arith)
 
-first-strange-requires : tie.Need-first-strange-requires
-first-strange-requires c κs = search needs
-
 returns-3 : tie.Need-returns-3
 returns-3 c =
     let e = c .before .first-strange .ensures in
@@ -29,4 +26,4 @@ returns-4 c =
     fine-list _ _ (omega arith) (omega arith) (omega arith)
 
 pub list-fault-spec : {M : Type 1} → statement M
-list-fault-spec = tie.close (tie.spec returns returns-2 first-strange-requires returns-3 returns-4)
+list-fault-spec = tie.close (tie.spec returns returns-2 (λ c κs. search needs) returns-3 returns-4)

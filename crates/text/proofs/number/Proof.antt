@@ -2,40 +2,31 @@
 use mathlib.Core.Path.{_∙_, ap}
 use Prim.Native.Nat.{ℕ}
 use Rattle.io.specs.Digits.{digits}
-use Rattle.grown.specs.Grown.{appended}
+use Rattle.laid.specs.Laid.{page, behind}
 use Rattle.text.specs.Text.{decimalOf}
 use Rattle.text.proofs.Decimal.{fewest-places}
 use borrow.Author.Needs.{needs}
 use Rattle.text.proofs.number.Statement.{statement}
 use Rattle.text.proofs.number.Tie as tie
 
-decimal-requires : tie.Need-decimal-requires
-decimal-requires c κs = search needs
-
-array-share-prefix-digits : tie.Need-array-share-prefix-digits
-array-share-prefix-digits c = search needs
-
-slice-aggregate-append : tie.Need-slice-aggregate-append
-slice-aggregate-append c = search needs
-
-append-requires : tie.Need-append-requires
-append-requires c κs = search needs
-
 returns : tie.Need-returns
 unfolding decimalOf
 returns c =
-    let d = c .before .before in
-    let n : ℕ = d .before .before .args .n in
-    c .append .ensures
-    ∙ ap (appended (d .before .before .args .g)) (d .decimal .ensures .1 .1
-    ∙ ap (λ (k : ℕ). digits 10 k n) (fewest-places n (d .decimal .result) (d .before .before .fits .n .fits) (d .decimal .ensures .1 .0)))
+    let p = c .before .before in
+    let d = p .before .before .before in
+    let s = d .before .before .before in
+    let n : ℕ = s .args .n in
+    p .put .ensures
+    ∙ ap (behind (page (s .args .buffer .now) (s .args .at))) (d .decimal .ensures .1 .1
+    ∙ ap (λ (k : ℕ). digits 10 k n) (fewest-places n (d .decimal .result) (s .fits .n .fits) (d .decimal .ensures .1 .0)))
 
 pub number-spec : {M : Type 1} → statement M
 number-spec =
     tie.close
     (tie.spec
-    decimal-requires
-    array-share-prefix-digits
-    slice-aggregate-append
-    append-requires
+    (λ c κs. search needs)
+    (λ c. search needs)
+    (λ c. search needs)
+    (λ c κs. search needs)
+    (λ c. search needs)
     returns)

@@ -7,17 +7,11 @@ use Rattle.nodes.specs.Limits.{maxNodes}
 use Rattle.turns.proofs.choose_two.Statement.{statement}
 use Rattle.turns.proofs.choose_two.Tie as tie
 
-sub-result : tie.Need-sub-result
-sub-result c = search needs
-
 mul-result : tie.Need-mul-result
 mul-result c = record { fits = lt-of-le-of-lt (mul-le-mul {m₂ = maxNodes} (c .before .pre) (omega arith)) (lit< tt) }
 
 returns : tie.Need-returns
 returns c = rw (c .if1 .taken)
 
-returns-2 : tie.Need-returns-2
-returns-2 c = search needs
-
 pub choose-two-spec : {M : Type 1} → statement M
-choose-two-spec = tie.close (tie.spec sub-result mul-result returns returns-2)
+choose-two-spec = tie.close (tie.spec (λ c. search needs) mul-result returns (λ c. search needs))

@@ -7,12 +7,6 @@ use Rattle.turns.proofs.Sift.{one-passes, one-fails}
 use Rattle.turns.proofs.one_lower.Statement.{statement}
 use Rattle.turns.proofs.one_lower.Tie as tie
 
-byte-at-requires : tie.Need-byte-at-requires
-byte-at-requires c κs = search needs
-
-one-requires : tie.Need-one-requires
-one-requires c κs = search needs
-
 returns : tie.Need-returns
 returns c = c .one .ensures ∙ one-passes _ _ (lt-below (omega arith))
 
@@ -20,4 +14,4 @@ returns-2 : tie.Need-returns-2
 returns-2 c = one-fails _ _ (le-below (omega arith))
 
 pub one-lower-spec : {M : Type 1} → statement M
-one-lower-spec = tie.close (tie.spec byte-at-requires one-requires returns returns-2)
+one-lower-spec = tie.close (tie.spec (λ c κs. search needs) (λ c κs. search needs) returns returns-2)

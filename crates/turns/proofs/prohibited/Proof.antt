@@ -20,12 +20,6 @@ abbrev μ-loop : tie.MeasureT-loop
 loop-holds : tie.Need-loop-holds Inv-loop μ-loop
 loop-holds c = (adding-none _, omega arith)
 
-rising-requires : tie.Need-rising-requires Inv-loop μ-loop
-rising-requires c κs = tt
-
-size-requires : tie.Need-size-requires Inv-loop μ-loop
-size-requires c κs = tt
-
 choose-two-requires : tie.Need-choose-two-requires Inv-loop μ-loop
 choose-two-requires c κs = adding-few (c .before .before .before .loop .inv .0) (size-of _ (c .before .rising .ensures) (c .size .ensures))
 
@@ -37,12 +31,6 @@ loop-again c =
 add-sum : tie.Need-add-sum Inv-loop μ-loop
 add-sum c = omega (arith, loop-again c)
 
-add-a : tie.Need-add-a Inv-loop μ-loop
-add-a c = omega arith
-
-loop-less : tie.Need-loop-less Inv-loop μ-loop
-loop-less c = omega arith
-
 returns : tie.Need-returns Inv-loop μ-loop
 returns c = adding-all (c .before .loop .inv .0) (omega arith) ∙ sym (prohibited-rising maxNodes _ _)
 
@@ -53,11 +41,11 @@ prohibited-spec =
     Inv-loop
     μ-loop
     loop-holds
-    rising-requires
-    size-requires
+    (λ c κs. tt)
+    (λ c κs. tt)
     choose-two-requires
     add-sum
-    add-a
-    loop-less
+    (λ c. omega arith)
+    (λ c. omega arith)
     loop-again
     returns)

@@ -9,20 +9,8 @@ use Rattle.turns.proofs.Sift.{not-lower}
 use Rattle.turns.proofs.rising.Statement.{statement}
 use Rattle.turns.proofs.rising.Tie as tie
 
-row-requires : tie.Need-row-requires
-row-requires c κs = search needs
-
-byte-at-requires : tie.Need-byte-at-requires
-byte-at-requires c κs = search needs
-
 add-lower : tie.Need-add-lower
 add-lower c = omega (arith, c .before .before .shared-slice-known2 .given (c .before .before .before .before .args .v))
-
-lower-requires : tie.Need-lower-requires
-lower-requires c κs = search needs
-
-difference-requires : tie.Need-difference-requires
-difference-requires c κs = search needs
 
 returns : tie.Need-returns
 unfolding rises edgeOf
@@ -33,4 +21,4 @@ returns c =
 pub rising-spec : {M : Type 1} → statement M
 rising-spec =
     tie.close
-    (tie.spec row-requires byte-at-requires add-lower lower-requires difference-requires returns)
+    (tie.spec (λ c κs. search needs) (λ c κs. search needs) add-lower (λ c κs. search needs) (λ c κs. search needs) returns)

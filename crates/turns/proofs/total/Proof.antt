@@ -16,9 +16,6 @@ abbrev μ-loop : tie.MeasureT-loop
 loop-holds : tie.Need-loop-holds Inv-loop μ-loop
 loop-holds c = (adding-none _, omega arith)
 
-degree-requires : tie.Need-degree-requires Inv-loop μ-loop
-degree-requires c κs = tt
-
 choose-two-requires : tie.Need-choose-two-requires Inv-loop μ-loop
 choose-two-requires c κs = adding-few (c .before .before .loop .inv .0) (c .degree .ensures)
 
@@ -27,12 +24,6 @@ loop-again c = (adding-more (c .before .before .before .loop .inv .0) (c .before
 
 add-sum : tie.Need-add-sum Inv-loop μ-loop
 add-sum c = omega (arith, loop-again c)
-
-add-v : tie.Need-add-v Inv-loop μ-loop
-add-v c = omega arith
-
-loop-less : tie.Need-loop-less Inv-loop μ-loop
-loop-less c = omega arith
 
 returns : tie.Need-returns Inv-loop μ-loop
 returns c = adding-all (c .before .loop .inv .0) (omega arith)
@@ -44,10 +35,10 @@ total-spec =
     Inv-loop
     μ-loop
     loop-holds
-    degree-requires
+    (λ c κs. tt)
     choose-two-requires
     add-sum
-    add-v
-    loop-less
+    (λ c. omega arith)
+    (λ c. omega arith)
     loop-again
     returns)

@@ -7,14 +7,8 @@ use Rattle.worked.specs.Right.{flat}
 use Rattle.worked.proofs.worked_byte.Statement.{statement}
 use Rattle.worked.proofs.worked_byte.Tie as tie
 
-array-read-result : tie.Need-array-read-result
-array-read-result c = search needs
-
-returns : tie.Need-returns
-returns c = search needs
-
 returns-2 : tie.Need-returns-2
 returns-2 c = sym (List·getD-eq-default (flat worked) 0 (c .if1 .left))
 
 pub worked-byte-spec : {M : Type 1} → statement M
-worked-byte-spec = tie.close (tie.spec array-read-result returns returns-2)
+worked-byte-spec = tie.close (tie.spec (λ c. search needs) (λ c. search needs) returns-2)

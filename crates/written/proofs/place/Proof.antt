@@ -2,24 +2,16 @@
 use native.Mathlib.Omega.{arith}
 use borrow.Author.Needs.{needs}
 use denote.Ref.{now}
-use Rattle.written.proofs.Placed.{no-room, room}
+use Rattle.laid.proofs.Pieces.{lays-none, lays-more}
+use Rattle.written.proofs.Placed.{no-room, lays-writes}
 use Rattle.written.proofs.place.Statement.{statement}
 use Rattle.written.proofs.place.Tie as tie
 
 returns : tie.Need-returns
 returns c = let a = c .before .before .before .args in no-room (now (a .bytes)) (now (a .buffer)) (c .if1 .taken)
 
-copy-requires : tie.Need-copy-requires
-copy-requires c κs = search needs
-
-same-length : tie.Need-same-length
-same-length c = search needs
-
 returns-2 : tie.Need-returns-2
-returns-2 c =
-    let k = c .before .before in
-    let a = k .before .before .before .before .before .args in
-    room (now (a .bytes)) (now (a .buffer)) (omega arith) (k .copy .ensures)
+returns-2 c = lays-writes (lays-more _ (lays-none _) (c .before .before .put .ensures) (omega arith))
 
 pub place-spec : {M : Type 1} → statement M
-place-spec = tie.close (tie.spec returns copy-requires same-length returns-2)
+place-spec = tie.close (tie.spec returns (λ c κs. search needs) (λ c. search needs) returns-2)

@@ -23,21 +23,9 @@ returns c = sym (ne-alike _ _ (λ e. c .if1 .taken (ap length e)))
 loop-holds : tie.Need-loop-holds Inv-loop μ-loop
 loop-holds c = (omega arith, omega arith, omega arith, λ k l. absurd (omega arith))
 
-shared-slice-read-if2 : tie.Need-shared-slice-read-if2 Inv-loop μ-loop
-shared-slice-read-if2 c = omega arith
-
-shared-slice-read-if2-2 : tie.Need-shared-slice-read-if2-2 Inv-loop μ-loop
-shared-slice-read-if2-2 c = omega arith
-
 returns-2 : tie.Need-returns-2 Inv-loop μ-loop
 returns-2 c =
     sym (ne-alike _ _ (λ e. c .if2 .taken (ap (λ (l : List ℕ). getD l (c .before .before .before .before .loop .i) 0) e)))
-
-add-i : tie.Need-add-i Inv-loop μ-loop
-add-i c = omega arith
-
-loop-less : tie.Need-loop-less Inv-loop μ-loop
-loop-less c = omega arith
 
 loop-again : tie.Need-loop-again Inv-loop μ-loop
 loop-again c = (omega arith, omega arith, omega arith, below-more _ _ (c .before .before .before .before .loop .inv .3) (c .if2 .left))
@@ -53,10 +41,10 @@ same-bytes-spec =
     μ-loop
     returns
     loop-holds
-    shared-slice-read-if2
-    shared-slice-read-if2-2
+    (λ c. omega arith)
+    (λ c. omega arith)
     returns-2
-    add-i
-    loop-less
+    (λ c. omega arith)
+    (λ c. omega arith)
     loop-again
     returns-3)

@@ -8,23 +8,8 @@ use borrow.Author.Needs.{needs}
 use Rattle.machine.proofs.ahead.class_after.Statement.{statement}
 use Rattle.machine.proofs.ahead.class_after.Tie as tie
 
-is-falling-requires : tie.Need-is-falling-requires
-is-falling-requires c κs = search needs
-
 returns : tie.Need-returns
 returns c = sym (class-falling _ _ (sym (c .before .is-falling .ensures) ∙ c .if1 .taken))
-
-head-requires : tie.Need-head-requires
-head-requires c κs = search needs
-
-label-requires : tie.Need-label-requires
-label-requires c κs = search needs
-
-next-node-requires : tie.Need-next-node-requires
-next-node-requires c κs = search needs
-
-label-requires-2 : tie.Need-label-requires-2
-label-requires-2 c κs = search needs
 
 returns-2 : tie.Need-returns-2
 returns-2 c =
@@ -53,11 +38,11 @@ pub class-after-spec : {M : Type 1} → statement M
 class-after-spec =
     tie.close
     (tie.spec
-    is-falling-requires
+    (λ c κs. search needs)
     returns
-    head-requires
-    label-requires
-    next-node-requires
-    label-requires-2
+    (λ c κs. search needs)
+    (λ c κs. search needs)
+    (λ c κs. search needs)
+    (λ c κs. search needs)
     returns-2
     returns-3)

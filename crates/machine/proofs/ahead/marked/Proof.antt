@@ -7,12 +7,9 @@ use borrow.Author.Needs.{needs}
 use Rattle.machine.proofs.ahead.marked.Statement.{statement}
 use Rattle.machine.proofs.ahead.marked.Tie as tie
 
-byte-requires : tie.Need-byte-requires
-byte-requires c κs = search needs
-
 returns : tie.Need-returns
 unfolding same
 returns c = not-non _ ∙ ap (λ (x : ℕ). non (same x 0)) (c .byte .ensures)
 
 pub marked-spec : {M : Type 1} → statement M
-marked-spec = tie.close (tie.spec byte-requires returns)
+marked-spec = tie.close (tie.spec (λ c κs. search needs) returns)

@@ -7,9 +7,6 @@ use borrow.Author.Needs.{needs}
 use Rattle.machine.proofs.ahead.place.Statement.{statement}
 use Rattle.machine.proofs.ahead.place.Tie as tie
 
-capped-requires : tie.Need-capped-requires
-capped-requires c κs = search needs
-
 mul-result : tie.Need-mul-result
 mul-result c =
     let e = c .capped .ensures in
@@ -26,4 +23,4 @@ returns : tie.Need-returns
 returns c = ap (λ (x : ℕ). c .before .args .head * x + c .before .args .target) (c .capped .ensures)
 
 pub place-spec : {M : Type 1} → statement M
-place-spec = tie.close (tie.spec capped-requires mul-result add-result returns)
+place-spec = tie.close (tie.spec (λ c κs. search needs) mul-result add-result returns)

@@ -6,17 +6,8 @@ use lib.ListN.{List·getD-eq-default}
 use Rattle.machine.proofs.arrays.held.Statement.{statement}
 use Rattle.machine.proofs.arrays.held.Tie as tie
 
-mul-result : tie.Need-mul-result
-mul-result c = search needs
-
-shared-slice-read-result : tie.Need-shared-slice-read-result
-shared-slice-read-result c = search needs
-
-returns : tie.Need-returns
-returns c = search needs
-
 returns-2 : tie.Need-returns-2
 returns-2 c = sym (List·getD-eq-default (now (c .before .args .holders)) 0 (c .if1 .left))
 
 pub held-spec : {M : Type 1} → statement M
-held-spec = tie.close (tie.spec mul-result shared-slice-read-result returns returns-2)
+held-spec = tie.close (tie.spec (λ c. search needs) (λ c. search needs) (λ c. search needs) returns-2)

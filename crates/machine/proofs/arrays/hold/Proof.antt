@@ -6,17 +6,8 @@ use lib.Seq.{set-out}
 use Rattle.machine.proofs.arrays.hold.Statement.{statement}
 use Rattle.machine.proofs.arrays.hold.Tie as tie
 
-mul-next : tie.Need-mul-next
-mul-next c = search needs
-
-array-write-next : tie.Need-array-write-next
-array-write-next c = search needs
-
-returns : tie.Need-returns
-returns c = search needs
-
 returns-2 : tie.Need-returns-2
 returns-2 c = sym (set-out (c .before .args .holders) _ _ (omega arith))
 
 pub hold-spec : {M : Type 1} → statement M
-hold-spec = tie.close (tie.spec mul-next array-write-next returns returns-2)
+hold-spec = tie.close (tie.spec (λ c. search needs) (λ c. search needs) (λ c. search needs) returns-2)

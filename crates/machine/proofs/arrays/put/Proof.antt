@@ -6,14 +6,8 @@ use lib.Seq.{set-out}
 use Rattle.machine.proofs.arrays.put.Statement.{statement}
 use Rattle.machine.proofs.arrays.put.Tie as tie
 
-array-write-next : tie.Need-array-write-next
-array-write-next c = search needs
-
-returns : tie.Need-returns
-returns c = search needs
-
 returns-2 : tie.Need-returns-2
 returns-2 c = sym (set-out (c .before .args .bytes) _ _ (omega arith))
 
 pub put-spec : {M : Type 1} → statement M
-put-spec = tie.close (tie.spec array-write-next returns returns-2)
+put-spec = tie.close (tie.spec (λ c. search needs) (λ c. search needs) returns-2)

@@ -19,27 +19,6 @@ abbrev μ-loop : tie.MeasureT-loop
 loop-holds : tie.Need-loop-holds Inv-loop μ-loop
 loop-holds c = (filling-none _ _, omega arith)
 
-mul-left : tie.Need-mul-left Inv-loop μ-loop
-mul-left c = omega arith
-
-array-read-left : tie.Need-array-read-left Inv-loop μ-loop
-array-read-left c = omega arith
-
-left-requires : tie.Need-left-requires Inv-loop μ-loop
-left-requires c κs = tt
-
-mul-next : tie.Need-mul-next Inv-loop μ-loop
-mul-next c = omega arith
-
-array-write-next : tie.Need-array-write-next Inv-loop μ-loop
-array-write-next c = omega arith
-
-add-c : tie.Need-add-c Inv-loop μ-loop
-add-c c = omega arith
-
-loop-less : tie.Need-loop-less Inv-loop μ-loop
-loop-less c = omega arith
-
 loop-again : tie.Need-loop-again Inv-loop μ-loop
 loop-again c =
     let inv = c .before .before .loop .inv in
@@ -55,12 +34,12 @@ release-spec =
     Inv-loop
     μ-loop
     loop-holds
-    mul-left
-    array-read-left
-    left-requires
-    mul-next
-    array-write-next
-    add-c
-    loop-less
+    (λ c. omega arith)
+    (λ c. omega arith)
+    (λ c κs. tt)
+    (λ c. omega arith)
+    (λ c. omega arith)
+    (λ c. omega arith)
+    (λ c. omega arith)
     loop-again
     returns)

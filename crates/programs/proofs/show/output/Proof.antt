@@ -1,63 +1,52 @@
--- `programs::show::output` meets its contract: the line of the refusal, or the report on the cabling of an image that is fine.
-use mathlib.Core.Path.{_≡_, sym, _∙_, ap₂}
-use lib.Dec.{lit≤}
+-- `programs::show::output` meets its contract: the line of the refusal, or the report on the fabric of an image that is fine.
 use denote.Ref.{now}
-use Rattle.refusal.specs.declared.Verdict.the-variants.{Fine}
-use Rattle.grown.proofs.Behind.{holds-as}
-use Rattle.image.specs.Calls.{imageFault}
-use Rattle.image.proofs.Images.{accepted-good}
-use Rattle.programs.specs.Shows.{reportOf}
-use Rattle.programs.proofs.Shown.{refused-alone, reported}
+use Rattle.written.proofs.Placed.{no-room-for}
+use Rattle.programs.proofs.Shown.{Opened, opened, shown-refused, shown-report}
 use borrow.Author.Needs.{needs}
 use Rattle.programs.proofs.show.output.Statement.{statement}
 use Rattle.programs.proofs.show.output.Tie as tie
 
--- the image was found fine
-image-fine : (c : tie.After-enum-told) → imageFault (now (c .before .before .before .before .args .input)) ≡ Fine
-image-fine c = sym (c .before .before .verdict .ensures) ∙ c .enum-told .given .1
-
-verdict-requires : tie.Need-verdict-requires
-verdict-requires c κs = search needs
-
-enum-known-checked : tie.Need-enum-known-checked
-enum-known-checked c = search needs
-
-refusal-line-requires : tie.Need-refusal-line-requires
-refusal-line-requires c κs = search needs
-
-enum-told : tie.Need-enum-told
-enum-told c = search needs
-
-nodes-in-requires : tie.Need-nodes-in-requires
-nodes-in-requires c κs = search needs
-
-pairs-in-requires : tie.Need-pairs-in-requires
-pairs-in-requires c κs = search needs
-
-report-requires : tie.Need-report-requires
-report-requires c κs = rw (c .before .nodes-in .ensures, c .pairs-in .ensures) (accepted-good _ (image-fine (c .before .before)))
-
 returns : tie.Need-returns
-returns c =
-    let v = c .before .before .before .before in
-    holds-as 16927 (c .refusal-line .ensures) (sym (refused-alone _ (sym (v .verdict .ensures) ∙ c .before .before .checked .given .1))) (lit≤ tt)
+returns c = no-room-for (c .if1 .taken)
 
 returns-2 : tie.Need-returns-2
 returns-2 c =
+    let l = c .before .before in
+    let v = l .before .before .before in
+    let o = v .before .before in
+    shown-refused _ (o .open .ensures) (o .before .if1 .left) (v .verdict .given .1) (l .refusal-line .ensures)
+
+-- the image was opened
+opened-at : (c : tie.After-pairs-in) → let o = c .before .before .before .before .before .before .before .before .before .before in
+    Opened (now (o .before .before .before .before .args .input)) (o .open .result .fabric) (now (c .pairs-in .result))
+opened-at c =
+    let told = c .before .before .before .before .before .before .before .before in
+    opened _ (told .before .before .open .ensures) (told .enum-told .given .1) (c .pairs-in .ensures)
+
+report-requires : tie.Need-report-requires
+report-requires c κs =
     let p = c .before in
-    let fine = image-fine (p .before .before) in
-    holds-as 16927 (c .report .ensures) (ap₂ reportOf (p .before .nodes-in .ensures) (p .pairs-in .ensures) ∙ sym (reported _ fine)) (lit≤ tt)
+    let o = opened-at p in
+    (o .good, o .fabric, p .before .before .before .before .before .before .before .before .before .before .before .if1 .left)
+
+returns-3 : tie.Need-returns-3
+returns-3 c =
+    let r = c .before .before in
+    let p = r .before .before in
+    shown-report (p .before .before .before .before .before .before .before .before .before .before .before .if1 .left) (opened-at p) (r .report .ensures)
 
 pub output-spec : {M : Type 1} → statement M
 output-spec =
     tie.close
     (tie.spec
-    verdict-requires
-    enum-known-checked
-    refusal-line-requires
-    enum-told
-    nodes-in-requires
-    pairs-in-requires
-    report-requires
     returns
-    returns-2)
+    (λ c κs. search needs)
+    (λ c. search needs)
+    (λ c κs. search needs)
+    (λ c. search needs)
+    returns-2
+    (λ c. search needs)
+    (λ c κs. search needs)
+    report-requires
+    (λ c. search needs)
+    returns-3)

@@ -1,0 +1,5 @@
+pub mod Labels
+pub mod Rows
+pub mod Routes
+pub mod Making
+pub mod Parts

@@ -1,0 +1,36 @@
+-- What a program prints in a buffer that has room for its longest: the bytes, or the line of the refusal.
+use mathlib.Core.Path.{_≡_, sym, _∙_}
+use mathlib.Core.List.{List}
+use Prim.Native.Nat.{ℕ, _≤_}
+use native.Mathlib.Nat.{le-trans}
+use lib.ListN.{length}
+use Rattle.refusal.specs.declared.Refusal.{Refusal}
+use Rattle.refusal.specs.declared.Verdict.{Verdict}
+use Rattle.refusal.specs.declared.Verdict.the-variants.{Fine, Fault}
+use Rattle.laid.specs.Laid.{Page}
+use Rattle.laid.specs.Lays.{Lays}
+use Rattle.written.specs.declared.Written.{Written}
+use Rattle.written.specs.declared.Written.the-variants.{Bytes}
+use Rattle.written.specs.Written.{Writes, roomFor}
+use Rattle.written.proofs.Placed.{writes-as, lays-writes, room-fine}
+use Rattle.written.proofs.Meaning.{not-refused}
+use Rattle.lines.specs.Lines.{refusalLine, longestRefusal, orRefused}
+
+fine : (v : Verdict) (bytes : List ℕ) → v ≡ Fine → bytes ≡ orRefused v bytes
+unfolding orRefused
+fine v bytes e = rw (e, orRefused)
+
+module _ {most : ℕ} {before : List ℕ} {v : Verdict} (bytes : List ℕ) (room : most ≤ length before) where
+  -- the bytes, written by a call
+  pub written-prints : {m : ℕ} {after : List ℕ} → Writes v bytes before (Bytes m) after → Writes (roomFor most before) (orRefused v bytes) before (Bytes m) after
+  written-prints {m} w = let e = not-refused bytes (length before) v m (sym (w .answers)) in writes-as (e ∙ sym (room-fine most before room)) (fine v bytes e) w
+
+  -- the bytes, laid here
+  pub lays-prints : {p : Page} → v ≡ Fine → Lays before p bytes → Writes (roomFor most before) (orRefused v bytes) before (Bytes (p .at)) (p .bytes)
+  lays-prints e l = writes-as (sym (room-fine most before room)) (fine v bytes e) (lays-writes l)
+
+  -- the line of the refusal
+  pub fault-prints : {r : Refusal} {answer : Written} {after : List ℕ} → v ≡ Fault r → longestRefusal ≤ most
+      → Writes (roomFor longestRefusal before) (refusalLine r) before answer after → Writes (roomFor most before) (orRefused v bytes) before answer after
+  unfolding orRefused
+  fault-prints e l w = writes-as (room-fine longestRefusal before (le-trans l room) ∙ sym (room-fine most before room)) (rw (e, orRefused)) w
