@@ -98,6 +98,10 @@ next-less n {w} {v} h z e d =
     let k = without-less n w v h (ap (has w) e ∙ lowest-in n w h z) in
     omega arith
 
+-- the rest of a set is the set without its lowest member, under whichever name the code has that one
+pub rest-at : (n w : ℕ) {v r : ℕ} → v ≡ least n (has w) → r ≡ setOf n (without (has w) (least n (has w))) → r ≡ setOf n (without (has w) v)
+rest-at n w e d = d ∙ ap (λ (u : ℕ). setOf n (without (has w) u)) (sym e)
+
 pub word-lt : (n : ℕ) (p : ℕ → Bool) {r : ℕ} → r ≡ setOf n p → r < 2 ^ n
 word-lt n p e = let k = setOf-lt n p in omega arith
 

@@ -96,3 +96,13 @@ pub fn lowest(w: u64) -> usize
 {
     u64::trailing_zeros(w) as usize
 }
+
+// The set without its lowest node, in one step.
+pub fn rest(w: u64) -> u64
+    ensures { λ r. ⌜ r ≡ setOf maxNodes (without (has w) (least maxNodes (has w))) ⌝ }
+{
+    if w == 0 {
+        return 0;
+    }
+    w - one(lowest(w))
+}
