@@ -1,6 +1,7 @@
 -- The message that is chosen: the first that is ready from where it looks, going round; where one is ready, a ready one is chosen.
-use mathlib.Core.Path.{_≡_, sym, _∙_, ap}
+use mathlib.Core.Path.{_≡_, refl, sym, _∙_, ap}
 use mathlib.Core.Bool.{Bool, true, false}
+use mathlib.Core.List.{[]}
 use Prim.Native.Nat.{ℕ, _+_, _-_, _%_, _<_}
 use native.Mathlib.Nat.{le-refl, mod-lt, mod-eq-of-lt, add-mod-right}
 use native.Mathlib.Omega.{arith}
@@ -9,7 +10,10 @@ use Rattle.finite.specs.Search.{Some, least}
 use Rattle.finite.proofs.Truth.{bcase, below-lt, below-le, lt-below, le-below}
 use Rattle.finite.proofs.Search.{least-unique, least-fact, least-before, least-found}
 use Rattle.machine.specs.declared.Record.{Record}
-use Rattle.machine.specs.Ready.{messagesOf, ready}
+use Rattle.machine.specs.Step.{isFalling, isDelivered, tableOf, nextNode}
+use Rattle.machine.specs.InPlace.{packed}
+use Rattle.machine.specs.Ready.{messagesOf, ready, told}
+use Rattle.machine.proofs.Ready.{ready-told}
 use Rattle.draining.specs.Order.{around, chosen}
 
 -- every message is met on the way round
@@ -52,3 +56,24 @@ module _ (r : Record) (look : ℕ) where
       let e = chosen-here (least (messagesOf r) ready-around) l t (least-before (messagesOf r) ready-around) in
       let m = mod-lt (look + least (messagesOf r) ready-around) {m = messagesOf r} (omega arith) in
       (omega arith, sym (ap (ready r) e) ∙ t)
+
+-- the same by the arrays that tell which messages are ready, of n messages
+module _ (r : Record) (look : ℕ) {n : ℕ} (e : n ≡ messagesOf r) where
+  abbrev asked : ℕ → Bool
+  asked j = ready (told (r .nodes) (r .free) (r .falling) (r .targets) (r .heads) (r .classes) (r .delivered) (r .holders)) (around n look j)
+
+  asked-is : (j : ℕ) → asked j ≡ ready-around r look j
+  asked-is j = ready-told r _ ∙ ap (λ (x : ℕ). ready r (around x look j)) e
+
+  pub asked-here : (k : ℕ) → k < n → asked k ≡ true → ((j : ℕ) → j < k → asked j ≡ false) → around n look k ≡ chosen r look
+  asked-here k l t first =
+      ap (λ (x : ℕ). around x look k) e ∙ chosen-here r look k (omega arith) (sym (asked-is k) ∙ t) (λ j b. sym (asked-is j) ∙ first j b)
+
+  pub asked-none : ((k : ℕ) → k < n → asked k ≡ false) → look ≡ chosen r look
+  asked-none none = chosen-none r look (λ k b. sym (asked-is k) ∙ none k (omega arith))
+
+-- neither labels nor the count of moves tell which message is chosen
+pub chosen-told : (r : Record) (look : ℕ)
+    → chosen (packed (r .nodes) (r .messages) 0 [] (r .free) (r .falling) (r .targets) (r .heads) (r .classes) (r .delivered) (r .holders)) look ≡ chosen r look
+unfolding chosen ready isDelivered nextNode tableOf isFalling
+chosen-told r look = refl

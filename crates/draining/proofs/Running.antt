@@ -2,7 +2,7 @@
 use mathlib.Core.Path.{_≡_, refl, sym, _∙_, ap}
 use mathlib.Core.Bool.{true, false}
 use mathlib.Core.List.{List}
-use Prim.Native.Nat.{ℕ, suc, _+_, _-_, _<_}
+use Prim.Native.Nat.{ℕ, suc, _+_, _*_, _-_, _<_, min}
 use native.Mathlib.Omega.{arith}
 use lib.ListN.{length}
 use Rattle.finite.specs.Sum.{sumTo}
@@ -12,12 +12,18 @@ use Rattle.cabling.specs.Cabling.{links}
 use Rattle.fabric.specs.Fabric.{fabricOf}
 use Rattle.format.specs.Contents.{nodesIn}
 use Rattle.image.specs.Image.{cablingIn}
+use Rattle.nodes.specs.Limits.{maxNodes}
+use Rattle.machine.specs.Sizes.{maxMessages}
 use Rattle.machine.specs.declared.Record.{Record}
+use Rattle.machine.specs.InPlace.{FreeFrom}
 use Rattle.machine.specs.Fresh.{sourceIn, targetIn, begunOf}
-use Rattle.machine.specs.Runs.{messagesIn, routeIn, allMoves}
+use Rattle.machine.specs.Runs.{Listed, messagesIn, routeIn, allMoves}
 use Rattle.machine.specs.Ready.{allDelivered}
+use Rattle.machine.proofs.Reached.{reached-state}
+use Rattle.machine.proofs.Drain.{free-from}
 use Rattle.start.specs.Start.{startFault, freshOf}
-use Rattle.start.proofs.Fabrics.{RunFor, label-read, fresh-reached, start-fabric, start-listed}
+use Rattle.start.proofs.Fabrics.{TabledFor, RunFor, label-read, fresh-reached, start-fabric, start-listed}
+use Rattle.draining.specs.declared.Turned.{Turned}
 use Rattle.draining.specs.Order.{turnOf}
 use Rattle.draining.specs.Drained.{after, sumOf, endOf}
 use Rattle.draining.proofs.Turns.{after-done, after-turn, turn-run, turn-less}
@@ -45,18 +51,37 @@ module _ (b list : List ℕ) (fine : startFault b list ≡ Fine) where
       let z : sumOf b list - freshOf b list .moves ≡ sumOf b list = omega arith in
       record { run = fresh-reached b list; ends = ap (λ (k : ℕ). after k seed (freshOf b list)) z }
 
+  tabled : TabledFor (cablingIn b)
+  tabled = start-fabric b list fine
+
+  listed : Listed (nodesIn b) list
+  listed = start-listed b list fine
+
   module _ {seed next : ℕ} {last : Record} (i : Running b list seed next last) where
     less : allDelivered last ≡ false → suc (sumOf b list - turnOf next last .«record» .moves) ≡ sumOf b list - last .moves
-    less d = rw (sum-read b list) at (turn-less (start-fabric b list fine) (start-listed b list fine) (i .run) next d)
+    less d = rw (sum-read b list) at (turn-less tabled listed (i .run) next d)
 
-    pub running-more : allDelivered last ≡ false → Running b list seed (turnOf next last .seed) (turnOf next last .«record»)
-    running-more d = record {
-      run = turn-run (start-fabric b list fine) (start-listed b list fine) (i .run) next;
-      ends = sym (after-turn _ next last d) ∙ ap (λ (k : ℕ). after k next last) (less d) ∙ i .ends;
-    }
+    -- from what a turn leaves it goes on, with a move less to make
+    module _ {t : Turned} (e : t ≡ turnOf next last) (d : allDelivered last ≡ false) where
+      pub running-more : Running b list seed (t .seed) (t .«record»)
+      running-more = rw e (record {
+        run = turn-run tabled listed (i .run) next;
+        ends = sym (after-turn _ next last d) ∙ ap (λ (k : ℕ). after k next last) (less d) ∙ i .ends;
+      })
 
-    pub running-less : allDelivered last ≡ false → sumOf b list - turnOf next last .«record» .moves < sumOf b list - last .moves
-    running-less d = let e = less d in omega arith
+      pub running-less : sumOf b list - t .«record» .moves < sumOf b list - last .moves
+      running-less = rw e (let l = less d in omega arith)
 
     pub running-all : allDelivered last ≡ true → last ≡ endOf b list seed
     running-all d = sym (after-done _ next last d) ∙ i .ends
+
+    -- the record has a mark for each of 256 messages, and no channel from 64 N on is held
+    pub running-marks : length (last .delivered) ≡ maxMessages
+    running-marks = reached-state tabled listed (i .run) .1 .kept .delivered-size
+
+    pub running-free : (span : ℕ) → span ≡ maxNodes * min (last .nodes) maxNodes → FreeFrom span (last .holders)
+    running-free span e =
+        let n = reached-state tabled listed (i .run) .1 .kept .nodes in
+        let m = tabled .many in
+        let s : span ≡ maxNodes * nodesIn b = omega arith in
+        rw s (free-from tabled listed (i .run))

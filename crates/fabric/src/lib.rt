@@ -40,7 +40,7 @@ fn good(n: usize, pairs: &[u8]) -> Fabric
     ensures { λ r. ⌜ r ≡ fabricOf (cabled n (now (pairs .entry))) ⌝ }
 {
     let t = network::table_of(pairs);
-    let labels = labels::labels(t, n);
+    let labels = labels::labels(&t, n);
     let tables = rows::tables_of(&t, &labels, n);
     let free = tables.free;
     let falling = tables.falling;

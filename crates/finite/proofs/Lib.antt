@@ -3,3 +3,4 @@ pub mod Sum
 pub mod Search
 pub mod Sets
 pub mod Lists
+pub mod Filling

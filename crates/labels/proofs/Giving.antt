@@ -10,10 +10,10 @@ use Rattle.finite.specs.Truth.{below}
 use Rattle.finite.specs.Sets.{has, setOf, without}
 use Rattle.finite.proofs.Truth.{bcase, refute, and-l, below-lt, below-le}
 use Rattle.finite.proofs.Sets.{without-other}
-use Rattle.graph.specs.Network.{Members, among, avoid}
+use Rattle.graph.specs.Network.{Members, among}
 use Rattle.nodes.specs.Limits.{maxNodes}
 use Rattle.nodes.proofs.Words.{has-all}
-use Rattle.network.specs.Table.{edgeOf, tableFrom, remaining}
+use Rattle.network.specs.Table.{edgeOf, remaining, struckOut}
 use Rattle.network.proofs.Meaning.{edge-remaining, strike-remaining}
 use Rattle.rule.specs.Candidate.{choice}
 use Rattle.rule.specs.Labels.{remains, give, stage, labelled}
@@ -58,7 +58,7 @@ giving-none t m {w} l e f =
     }
 
 pub giving-more : (t : List ℕ) (m k w : ℕ) (rest out : List ℕ) {v w′ : ℕ} {rest′ out′ : List ℕ} → m ≤ maxNodes → Giving t m k w rest out
-    → v ≡ choiceBy maxNodes (edgeOf rest) (has w) → out′ ≡ give maxNodes v (k + 1) out → rest′ ≡ tableFrom (avoid v (edgeOf rest))
+    → v ≡ choiceBy maxNodes (edgeOf rest) (has w) → out′ ≡ give maxNodes v (k + 1) out → rest′ ≡ struckOut v rest
     → w′ ≡ setOf maxNodes (without (has w) v) → Giving t m (k + 1) w′ rest′ out′
 unfolding labelled stage
 giving-more t m k w rest out {v} {out′ = out′} l g ev eo er ew =
@@ -76,6 +76,6 @@ giving-more t m k w rest out {v} {out′ = out′} l g ev eo er ew =
       size = ap length new ∙ give-length maxNodes v (suc k) out ∙ g .size;
       word = ew ∙ ap (λ (S : ℕ → Bool). setOf maxNodes (without S v)) h ∙ ap (setOf maxNodes) (sym left);
       table =
-          er ∙ ap (λ (x : List ℕ). tableFrom (avoid v (edgeOf x))) (g .table) ∙ strike-remaining R (edgeOf t) (remains-in m out l) v
+          er ∙ ap (struckOut v) (g .table) ∙ strike-remaining R (edgeOf t) (remains-in m out l) v
           ∙ ap (λ (S : ℕ → Bool). remaining S (edgeOf t)) (sym left);
     }

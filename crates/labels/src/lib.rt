@@ -2,6 +2,7 @@
 ghost use mathlib.Core.Path.{_≡_};
 ghost use mathlib.Core.Bool.{true};
 ghost use Prim.Native.Nat.{_-_, min};
+ghost use lib.ListN.{length};
 ghost use Rattle.finite.specs.Sum.{count};
 ghost use Rattle.finite.specs.Sets.{has};
 ghost use Rattle.nodes.specs.Limits.{maxNodes};
@@ -28,7 +29,7 @@ pub fn room(t: &[u64], v: usize) -> bool
     while left != 0 {
         let u = nodes::lowest(left);
         sum += less_one(network::degree(t, u));
-        left = nodes::without(left, u);
+        left = nodes::rest(left);
     }
     d * less_one(d) <= sum
 }
@@ -58,8 +59,8 @@ fn better_of(t: &[u64; MAX_NODES], w: u64, v: usize, best: Best) -> Best
 }
 
 // The candidate of least degree, lowest number first, among the nodes of w; 64 where there is none.
-pub fn choice(t: [u64; MAX_NODES], w: u64) -> usize
-    ensures { λ r. ⌜ r ≡ choiceBy maxNodes (edgeOf t) (has w) ⌝ }
+pub fn choice(t: &[u64; MAX_NODES], w: u64) -> usize
+    ensures { λ r. ⌜ r ≡ choiceBy maxNodes (edgeOf (now (t .entry))) (has w) ⌝ }
 {
     let mut best = Best {
         degree: 65,
@@ -68,38 +69,35 @@ pub fn choice(t: [u64; MAX_NODES], w: u64) -> usize
     let mut left = w;
     while left != 0 {
         let v = nodes::lowest(left);
-        left = nodes::without(left, v);
-        let next = better_of(&t, w, v, best);
+        left = nodes::rest(left);
+        let next = better_of(t, w, v, best);
         best = next;
     }
     best.node
 }
 
-// The labels with label k for node v; as they are where v is no node.
-fn given(labels: [u8; MAX_NODES], v: usize, k: u8) -> [u8; MAX_NODES]
-    ensures { λ r. ⌜ r ≡ give maxNodes v k labels ⌝ }
+// Gives node v label k; nothing changes where v is no node.
+fn give(labels: &mut [u8], v: usize, k: u8)
+    requires { ⌜ length (now labels) ≡ maxNodes ⌝ }
+    ensures { λ _. ⌜ now (labels .exit) ≡ give maxNodes v k (now (labels .entry)) ⌝ }
 {
-    let mut next = labels;
     if v < MAX_NODES {
-        next[v] = k;
+        labels[v] = k;
     }
-    next
 }
 
 // The labels of the first n nodes, 0 elsewhere. Of an n above 64 only 64 count.
-pub fn labels(t: [u64; MAX_NODES], n: usize) -> [u8; MAX_NODES]
-    ensures { λ r. ⌜ r ≡ labelsOf maxNodes (edgeOf t) (min n maxNodes) ⌝ }
+pub fn labels(t: &[u64], n: usize) -> [u8; MAX_NODES]
+    ensures { λ r. ⌜ r ≡ labelsOf maxNodes (edgeOf (now (t .entry))) (min n maxNodes) ⌝ }
 {
     let m = nodes::capped(n);
     let mut w = nodes::first(m);
     let mut rest = network::restrict(t, w);
     let mut out = [0u8; MAX_NODES];
     for k in 0..m {
-        let v = choice(rest, w);
-        let more = given(out, v, (k + 1) as u8);
-        out = more;
-        let less = network::strike(rest, v);
-        rest = less;
+        let v = choice(&rest, w);
+        give(&mut out, v, (k + 1) as u8);
+        network::strike(&mut rest, v);
         w = nodes::without(w, v);
     }
     out

@@ -66,12 +66,12 @@ hop-class edge labels r m e p (rise h) =
     let up = rises-lt edge (labelIn labels) _ _ h in
     let a : labelIn (r .labels) (head r m) ≡ labelIn labels (head r m) = ap (λ (l : List ℕ). labelIn l (head r m)) e in
     let b : labelIn (r .labels) (nextNode r m) ≡ labelIn labels (nextNode r m) = ap (λ (l : List ℕ). labelIn l (nextNode r m)) e in
-    ap (λ (x : ℕ). non (non (same x 0))) (class-free r m (non-true _ (sym p)) (omega arith)) ∙ true-non (false-non (same-refl 0))
+    ap (λ (x : ℕ). non (non (same x 0))) (class-free _ _ _ _ (non-true _ (sym p)) (omega arith)) ∙ true-non (false-non (same-refl 0))
 hop-class edge labels r m e p (fall h) =
     let down = falls-lt edge (labelIn labels) _ _ h in
     let a : labelIn (r .labels) (head r m) ≡ labelIn labels (head r m) = ap (λ (l : List ℕ). labelIn l (head r m)) e in
     let b : labelIn (r .labels) (nextNode r m) ≡ labelIn labels (nextNode r m) = ap (λ (l : List ℕ). labelIn l (nextNode r m)) e in
-    ap (λ (x : ℕ). non (non (same x 0))) (class-fall r m (omega arith)) ∙ false-non (true-non (ne-same (λ q. omega arith)))
+    ap (λ (x : ℕ). non (non (same x 0))) (class-fall _ _ _ _ (omega arith)) ∙ false-non (true-non (ne-same (λ q. omega arith)))
 
 module _ {n : ℕ} {edge : ℕ → ℕ → Bool} {labels free falling list : List ℕ} (tabled : Tabled n edge labels free falling) (listed : Listed n list)
     {r : Record} {s : Progress} (state : State n edge labels free falling list r s) (m : ℕ) (low : m < messagesIn list) (fresh : s .done m ≡ false) where

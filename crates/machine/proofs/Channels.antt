@@ -41,6 +41,19 @@ module _ (n : ℕ) (edge : ℕ → ℕ → Bool) (label : ℕ → ℕ) (many : n
     node-low : (i : ℕ) → i < length l → getD l i 0 < n
     node-low = path-inside edge inside v l (way .path)
 
+    -- its channels are between nodes below n
+    pub channels-low : v < n → (i : ℕ) → i < length (channelsOf v l) → getD (channelsOf v l) i 0 < maxNodes * n
+    channels-low first i b =
+        let e = channels-length v l in
+        let at = channels-at v l i (omega arith) in
+        let from = path-from i (omega arith) in
+        let to = node-low i (omega arith) in
+        omega arith
+      where
+        path-from : (i : ℕ) → i < length l → getD (v ∷ l) i 0 < n
+        path-from zero k = first
+        path-from (suc i) k = node-low i (omega arith)
+
     rank-at : (i : ℕ) → i < length l → channelRank n label (getD (channelsOf v l) i 0) ≡ hopRank n label v l i
     rank-at i b = ap (channelRank n label) (channels-at v l i b) ∙ rank-channel n label _ _ (let u = node-low i b in omega arith)
 

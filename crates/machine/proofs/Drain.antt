@@ -1,22 +1,25 @@
 -- Demand 3: "in whichever order moves are tried, while any is undelivered some message can move; successful moves never exceed the sum of (shortest lawful
 -- hops + 1), reach it exactly when all are delivered, and then every link is free."
 use mathlib.Core.Path.{_≡_, refl, sym, _∙_, ap}
-use mathlib.Core.Bool.{Bool, true}
+use mathlib.Core.Bool.{Bool, true, false}
 use mathlib.Core.List.{List}
 use mathlib.Core.Logic.{_↔_, ⊎-elim}
-use Prim.Native.Nat.{ℕ, zero, suc, _+_, _-_, _≤_, _<_}
+use Prim.Native.Nat.{ℕ, zero, suc, _+_, _*_, _-_, _≤_, _<_}
 use native.Mathlib.Omega.{arith}
 use Rattle.finite.specs.Truth.{non, same, below}
 use Rattle.finite.specs.Search.{Some}
-use Rattle.finite.proofs.Truth.{no-tf, bcase, non-false, same-eq, same-ne, eq-same, below-lt, below-le}
+use Rattle.finite.proofs.Truth.{no-tf, bcase, refute, non-false, same-eq, same-ne, eq-same, below-lt, below-le}
 use Rattle.finite.proofs.Sum.{when-true, when-false}
 use Rattle.finite.proofs.Search.{find}
-use Rattle.claims.specs.Claims.{Progress, CanStep, can-take, can-finish}
+use Rattle.nodes.specs.Limits.{maxNodes}
+use Rattle.claims.specs.Claims.{Progress, holds, CanStep, can-take, can-finish}
+use Rattle.claims.proofs.Holding.{holds-held}
 use Rattle.claims.proofs.Waiting.{some-can-step}
 use Rattle.claims.proofs.Counting.{made-le, made-whole, all-free}
 use Rattle.machine.specs.declared.Record.{Record}
 use Rattle.machine.specs.declared.Stepped.{Stepped}
 use Rattle.machine.specs.Step.{isDelivered, holder, counted, moved, arrived, stepOf}
+use Rattle.machine.specs.InPlace.{FreeFrom}
 use Rattle.machine.specs.Fresh.{begunOf}
 use Rattle.machine.specs.Runs.{labelIn, Tabled, Listed, messagesIn, itineraryIn, allMoves, Reached, fresh, move, successful, successes}
 use Rattle.machine.specs.Tells.{Says}
@@ -24,7 +27,7 @@ use Rattle.machine.proofs.Moves.{Case, unknown, already, arrives, waits
 use Rattle.machine.proofs.Channels.{channelRank}
 use Rattle.machine.proofs.State.{State}
 use Rattle.machine.proofs.Hops.{more-to-take}
-use Rattle.machine.proofs.Total.{all-moves-small, all-moves-whole, channels-rising}
+use Rattle.machine.proofs.Total.{all-moves-small, all-moves-whole, channels-rising, channels-inside}
 use Rattle.machine.proofs.Reached.{unknown-high, holder-low, holder-holds, reached-state}
 
 module _ {n : ℕ} {edge : ℕ → ℕ → Bool} {labels free falling list : List ℕ} (tabled : Tabled n edge labels free falling) (listed : Listed n list) where
@@ -82,17 +85,34 @@ module _ {n : ℕ} {edge : ℕ → ℕ → Bool} {labels free falling list : Lis
           λ h. c ∙ w .1 (λ m l. sym (state .says .done m l) ∙ h m l) ∙ sym a,
         )
 
-    -- "and then every link is free"
-    pub every-link-free : ((m : ℕ) → m < k → isDelivered r m ≡ true) → (c : ℕ) → holder r c ≡ 0
-    every-link-free h c =
+    -- a channel that no message holds is free
+    unheld : (c : ℕ) → ((b : ℕ) → b < k → holds itinerary so-far b c ≡ false) → holder r c ≡ 0
+    unheld c none =
         bcase (same (holder r c) 0) (same-eq _ _)
         (λ t.
         let z = same-ne _ _ t in
         let o = state .says .owners c in
         let b : ℕ = holder r c - 1 in
         let l : b < k = omega arith in
-        no-tf (eq-same {a = holder r c} {b = suc b} (omega arith))
-        (state .says .held c b l ∙ all-free k itinerary so-far (λ m i. sym (state .says .done m i) ∙ h m i) b l c))
+        no-tf (eq-same {a = holder r c} {b = suc b} (omega arith)) (state .says .held c b l ∙ none b l))
+
+    -- "and then every link is free"
+    pub every-link-free : ((m : ℕ) → m < k → isDelivered r m ≡ true) → (c : ℕ) → holder r c ≡ 0
+    every-link-free h c = unheld c (λ b l. all-free k itinerary so-far (λ m i. sym (state .says .done m i) ∙ h m i) b l c)
+
+    -- only channels between the n nodes are ever held
+    pub free-from : FreeFrom (maxNodes * n) (r .holders)
+    free-from = record {
+      none = λ c past.
+          unheld c (λ b l.
+          refute _ (λ h.
+          let held = holds-held itinerary so-far b c h in
+          let e = held .is in
+          let i = held .before in
+          let w = state .says .lawful .within b l in
+          let low = channels-inside tabled listed b l (held .at) (omega arith) in
+          omega arith));
+    }
 
     -- as long as the sum is not reached some move succeeds
     pub drains : r .moves < allMoves n edge labels list → Some k (λ m. successful (stepOf r m .answer))

@@ -1,9 +1,9 @@
-pub mod Filling
 pub mod Moves
 pub mod Fresh
 pub mod Channels
 pub mod Way
 pub mod Changes
+pub mod InPlace
 pub mod State
 pub mod Hops
 pub mod Total

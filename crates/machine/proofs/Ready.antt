@@ -7,7 +7,7 @@ use Prim.Native.Nat.{ℕ, _<_}
 use native.Mathlib.Omega.{arith}
 use Rattle.finite.specs.Truth.{_&_, _or_, non, same}
 use Rattle.finite.specs.Search.{Some}
-use Rattle.finite.proofs.Truth.{no-tf, refute, both, non-false, eq-same, ne-same, lt-below}
+use Rattle.finite.proofs.Truth.{no-tf, both, non-false, eq-same, ne-same, lt-below}
 use Rattle.finite.proofs.Search.{find, every-all, all-every}
 use Rattle.machine.specs.Sizes.{maxMessages}
 use Rattle.machine.specs.declared.Record.{Record}
@@ -58,9 +58,6 @@ every-delivered r h = sym (every-all _ _ h)
 pub delivered-every : (r : Record) → allDelivered r ≡ true → (m : ℕ) → m < messagesOf r → isDelivered r m ≡ true
 unfolding allDelivered
 delivered-every r h = all-every _ _ h
-
-pub one-undelivered : (r : Record) (m : ℕ) → m < messagesOf r → isDelivered r m ≡ false → false ≡ allDelivered r
-one-undelivered r m l u = sym (refute (allDelivered r) (λ t. no-tf (delivered-every r t m l) u))
 
 -- the records of a run have the messages of the list, and while one is undelivered one is ready
 module _ {n : ℕ} {edge : ℕ → ℕ → Bool} {labels free falling list : List ℕ} (tabled : Tabled n edge labels free falling) (listed : Listed n list)

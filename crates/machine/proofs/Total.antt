@@ -5,7 +5,7 @@ use mathlib.Core.List.{List}
 use Prim.Native.Nat.{ℕ, zero, suc, _+_, _*_, _≤_, _<_}
 use native.Mathlib.Nat.{le-step, lt-suc-self, mul-suc}
 use native.Mathlib.Omega.{arith}
-use lib.ListN.{length}
+use lib.ListN.{length, getD}
 use Rattle.finite.specs.Sum.{sumTo}
 use Rattle.finite.proofs.Sum.{sum-none, sum-more, sum-cong}
 use Rattle.lawful.specs.Path.{LawfulTo, Shortest}
@@ -16,7 +16,7 @@ use Rattle.claims.specs.Claims.{Rising, whole}
 use Rattle.machine.specs.Sizes.{maxMessages}
 use Rattle.machine.specs.Fresh.{sourceIn, targetIn}
 use Rattle.machine.specs.Runs.{labelIn, Tabled, Listed, messagesIn, routeIn, itineraryIn, allMoves}
-use Rattle.machine.proofs.Channels.{channels-length, channelRank, channels-rise}
+use Rattle.machine.proofs.Channels.{channels-length, channelRank, channels-low, channels-rise}
 use Rattle.machine.proofs.State.{few-messages, source-low, target-low}
 
 -- a sum of n terms of at most b each
@@ -71,3 +71,10 @@ module _ {n : ℕ} {edge : ℕ → ℕ → Bool} {labels free falling list : Lis
   channels-rising m low i j =
       channels-rise n edge (labelIn labels) (tabled .many) (tabled .network .inside) (sourceIn list m) (targetIn list m) (routeIn n edge labels list m)
       (hops-shortest m low .is) (tabled .climbing .distinct) (tabled .highest) i j
+
+  -- and each is between two of the n nodes
+  pub channels-inside : (m : ℕ) → m < messagesIn list → (i : ℕ) → i < length (itineraryIn n edge labels list m) → getD (itineraryIn n edge labels list m) i 0 < maxNodes * n
+  unfolding itineraryIn
+  channels-inside m low =
+      channels-low n edge (labelIn labels) (tabled .many) (tabled .network .inside) (sourceIn list m) (targetIn list m) (routeIn n edge labels list m)
+      (hops-shortest m low .is) (source-low tabled listed m low)

@@ -1,5 +1,6 @@
 pub mod Sizes
 pub mod Step
+pub mod InPlace
 pub mod Fresh
 pub mod Runs
 pub mod Tells

@@ -7,6 +7,7 @@ use Rattle.finite.specs.Search.{all}
 use Rattle.machine.specs.Sizes.{maxMessages}
 use Rattle.machine.specs.declared.Record.{Record}
 use Rattle.machine.specs.Step.{head, target, isDelivered, nextChannel, holder}
+use Rattle.machine.specs.InPlace.{packed}
 
 -- how many messages a record has; more than 256 count as 256
 abbrev pub messagesOf : Record → ℕ
@@ -22,16 +23,4 @@ allDelivered r = all (messagesOf r) (isDelivered r)
 
 -- a record of which only that is told what makes a message ready
 abbrev pub told : ℕ → List ℕ → List ℕ → List ℕ → List ℕ → List ℕ → List ℕ → List ℕ → Record
-told nodes free falling targets heads classes delivered holders = record {
-  nodes = nodes;
-  messages = 0;
-  moves = 0;
-  labels = [];
-  free = free;
-  falling = falling;
-  targets = targets;
-  heads = heads;
-  classes = classes;
-  delivered = delivered;
-  holders = holders;
-}
+told nodes free falling targets heads classes delivered holders = packed nodes 0 0 [] free falling targets heads classes delivered holders

@@ -50,10 +50,12 @@ nextChannel r m = channel (head r m) (nextNode r m)
 abbrev pub holder : Record → ℕ → ℕ
 holder r c = getD (r .holders) c 0
 
--- "A message starts free and becomes falling after its first fall."
-unfoldable pub classAfter : Record → ℕ → ℕ
-classAfter r m =
-    elim (isFalling r m or below (getD (r .labels) (nextNode r m) 0) (getD (r .labels) (head r m) 0)) [ true ↦ 1 | false ↦ 0 ]
+-- "A message starts free and becomes falling after its first fall.": its class after a hop, which is a fall or not
+unfoldable pub classIn : List ℕ → Bool → ℕ → ℕ → ℕ
+classIn labels falling head next = elim (falling or below (getD labels next 0) (getD labels head 0)) [ true ↦ 1 | false ↦ 0 ]
+
+abbrev pub classAfter : Record → ℕ → ℕ
+classAfter r m = classIn (r .labels) (isFalling r m) (head r m) (nextNode r m)
 
 -- "Moved and delivered count one successful move each"; a count that is full stays full
 abbrev pub counted : ℕ → ℕ

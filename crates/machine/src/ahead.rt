@@ -1,57 +1,20 @@
-// Where a message is, and what is ahead of it: its next node and channel, that channel's holder, and its class after the hop.
+// What is ahead of a message, by the arrays that tell it: its next node and channel, and its class after the hop.
 ghost use mathlib.Core.Path.{_≡_};
 ghost use mathlib.Core.List.{[]};
 ghost use Prim.Native.Nat.{_+_, _*_, min};
 ghost use lib.ListN.{getD};
 ghost use Rattle.finite.specs.Truth.{non, same};
 ghost use Rattle.nodes.specs.Limits.{maxNodes};
-ghost use Rattle.machine.specs.Step.{head, target, isFalling, isDelivered, nextNode, channel, nextChannel, holder, classAfter};
+ghost use Rattle.machine.specs.Step.{nextNode, channel, classIn};
 ghost use Rattle.machine.specs.Ready.{told};
-use crate::Record;
 use crate::arrays;
 use nodes::MAX_NODES;
-
-// Where a message is, and where it is going.
-pub fn head(record: Record, message: usize) -> u8
-    ensures { λ r. ⌜ r ≡ head «record» message ⌝ }
-{
-    let heads = record.heads;
-    arrays::byte(&heads, message)
-}
-
-pub fn target(record: Record, message: usize) -> u8
-    ensures { λ r. ⌜ r ≡ target «record» message ⌝ }
-{
-    let targets = record.targets;
-    arrays::byte(&targets, message)
-}
-
-// Has it no hops to go?
-pub fn is_there(record: Record, message: usize) -> bool
-    ensures { λ r. ⌜ r ≡ same (head «record» message) (target «record» message) ⌝ }
-{
-    head(record, message) == target(record, message)
-}
 
 // Is a message marked among these bytes, one a message?
 pub fn marked(bytes: &[u8], message: usize) -> bool
     ensures { λ r. ⌜ r ≡ non (same (getD (now (bytes .entry)) message 0) 0) ⌝ }
 {
     arrays::byte(bytes, message) != 0
-}
-
-pub fn is_falling(record: Record, message: usize) -> bool
-    ensures { λ r. ⌜ r ≡ isFalling «record» message ⌝ }
-{
-    let classes = record.classes;
-    marked(&classes, message)
-}
-
-pub fn is_delivered(record: Record, message: usize) -> bool
-    ensures { λ r. ⌜ r ≡ isDelivered «record» message ⌝ }
-{
-    let delivered = record.delivered;
-    marked(&delivered, message)
 }
 
 // The place of the entry in row `head` and column `target` of a table. More than 64 nodes count as 64.
@@ -61,7 +24,7 @@ fn place(nodes: usize, head: u8, target: u8) -> usize
     (head as usize) * nodes::capped(nodes) + (target as usize)
 }
 
-// The node after a message's head, by the arrays that tell it: an entry of its class's table.
+// The node after a message's head: an entry of its class's table.
 pub fn next_in(
     nodes: usize,
     free: &[u8],
@@ -84,43 +47,15 @@ pub fn next_in(
     arrays::byte(free, i)
 }
 
-// The node after a message's head.
-pub fn next_node(record: Record, message: usize) -> u8
-    ensures { λ r. ⌜ r ≡ nextNode «record» message ⌝ }
+// A message's class after its hop from `head` to `next`: falling after a fall, and from then on.
+pub fn class_after(labels: &[u8], class: u8, head: u8, next: u8) -> u8
+    ensures { λ r. ⌜ r ≡ classIn (now (labels .entry)) (non (same class 0)) head next ⌝ }
 {
-    let free = record.free;
-    let falling = record.falling;
-    let targets = record.targets;
-    let heads = record.heads;
-    let classes = record.classes;
-    next_in(
-        record.nodes,
-        &free,
-        &falling,
-        &targets,
-        &heads,
-        &classes,
-        message,
-    )
-}
-
-// The label of node v.
-fn label(record: Record, v: u8) -> u8
-    ensures { λ r. ⌜ r ≡ getD («record» .labels) v 0 ⌝ }
-{
-    let labels = record.labels;
-    arrays::byte(&labels, v as usize)
-}
-
-// A message's class after its next hop: falling after a fall, and from then on.
-pub fn class_after(record: Record, message: usize) -> u8
-    ensures { λ r. ⌜ r ≡ classAfter «record» message ⌝ }
-{
-    if is_falling(record, message) {
+    if class != 0 {
         return 1;
     }
-    let above = label(record, head(record, message));
-    let after = label(record, next_node(record, message));
+    let above = arrays::byte(labels, head as usize);
+    let after = arrays::byte(labels, next as usize);
     if after < above { 1 } else { 0 }
 }
 
@@ -129,19 +64,4 @@ pub fn channel(a: u8, b: u8) -> usize
     ensures { λ r. ⌜ r ≡ channel a b ⌝ }
 {
     MAX_NODES * (a as usize) + (b as usize)
-}
-
-// The number of a message's next channel.
-pub fn next_channel(record: Record, message: usize) -> usize
-    ensures { λ r. ⌜ r ≡ nextChannel «record» message ⌝ }
-{
-    channel(head(record, message), next_node(record, message))
-}
-
-// The holder of that channel.
-pub fn next_holder(record: Record, message: usize) -> u16
-    ensures { λ r. ⌜ r ≡ holder «record» (nextChannel «record» message) ⌝ }
-{
-    let holders = record.holders;
-    arrays::held(&holders, next_channel(record, message))
 }

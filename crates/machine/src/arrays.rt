@@ -1,9 +1,10 @@
 // The arrays of a drain record: what is read past an array's end is 0, and a store there changes nothing.
 ghost use mathlib.Core.Path.{_≡_};
+ghost use Prim.Native.Nat.{min};
 ghost use lib.ListN.{getD, set};
-ghost use Rattle.finite.specs.Lists.{tabulate};
 ghost use Rattle.machine.specs.Sizes.{maxMessages, maxPairs};
 ghost use Rattle.machine.specs.Step.{released};
+ghost use Rattle.machine.specs.InPlace.{givenBack};
 ghost use Rattle.machine.specs.Fresh.{zeros};
 use crate::MAX_MESSAGES;
 use crate::MAX_PAIRS;
@@ -15,15 +16,13 @@ pub fn byte(s: &[u8], i: usize) -> u8
     if i < s.len() { s[i] } else { 0 }
 }
 
-// The bytes with x at place i; as they are where there is no such place.
-pub fn put(bytes: [u8; MAX_MESSAGES], i: usize, x: u8) -> [u8; MAX_MESSAGES]
-    ensures { λ r. ⌜ r ≡ set bytes i x ⌝ }
+// The byte x at place i, where there is such a place.
+pub fn put(s: &mut [u8], i: usize, x: u8)
+    ensures { λ _. ⌜ now (s .exit) ≡ set (now (s .entry)) i x ⌝ }
 {
-    let mut next = bytes;
-    if i < MAX_MESSAGES {
-        next[i] = x;
+    if i < s.len() {
+        s[i] = x;
     }
-    next
 }
 
 // The holder of channel c.
@@ -33,15 +32,13 @@ pub fn held(holders: &[u16], c: usize) -> u16
     if c < holders.len() { holders[c] } else { 0 }
 }
 
-// The holders once channel c is taken.
-pub fn hold(holders: [u16; MAX_PAIRS], c: usize, holder: u16) -> [u16; MAX_PAIRS]
-    ensures { λ r. ⌜ r ≡ set holders c holder ⌝ }
+// Channel c is taken.
+pub fn hold(holders: &mut [u16], c: usize, holder: u16)
+    ensures { λ _. ⌜ now (holders .exit) ≡ set (now (holders .entry)) c holder ⌝ }
 {
-    let mut next = holders;
-    if c < MAX_PAIRS {
-        next[c] = holder;
+    if c < holders.len() {
+        holders[c] = holder;
     }
-    next
 }
 
 // A channel's holder once `holder` has given back what it holds.
@@ -51,15 +48,20 @@ fn left(h: u16, holder: u16) -> u16
     if h == holder { 0 } else { h }
 }
 
-// The holders once `holder` has given back what it holds.
-pub fn release(holders: [u16; MAX_PAIRS], holder: u16) -> [u16; MAX_PAIRS]
-    ensures { λ r. ⌜ r ≡ tabulate maxPairs (λ c. released holder (getD holders c 0)) ⌝ }
+// The lower of two numbers.
+fn lower(a: usize, b: usize) -> usize
+    ensures { λ r. ⌜ r ≡ min a b ⌝ }
 {
-    let mut next = holders;
-    for c in 0..4096usize {
-        next[c] = left(next[c], holder);
+    if a < b { a } else { b }
+}
+
+// What `holder` holds of the channels below `span` is given back.
+pub fn release(holders: &mut [u16], span: usize, holder: u16)
+    ensures { λ _. ⌜ now (holders .exit) ≡ givenBack span holder (now (holders .entry)) ⌝ }
+{
+    for c in 0..lower(span, holders.len()) {
+        holders[c] = left(holders[c], holder);
     }
-    next
 }
 
 pub fn no_bytes() -> [u8; MAX_MESSAGES]

@@ -1,14 +1,17 @@
 // The drain machine: messages that follow their tables' routes, hold every link behind them, and give all back when they are delivered.
 ghost use mathlib.Core.Path.{_≡_};
-ghost use Prim.Native.Nat.{_+_, _*_, _≤_, _<_, min};
+ghost use Prim.Native.Nat.{_+_, _*_, _≤_, min};
 ghost use lib.ListN.{getD};
+ghost use Rattle.finite.specs.Truth.{non, same};
 ghost use Rattle.finite.specs.Lists.{tabulate};
+ghost use Rattle.finite.specs.Search.{all};
 ghost use Rattle.machine.specs.Sizes.{maxMessages};
-ghost use Rattle.machine.specs.Step.{head, holder, counted, moved, arrived, refusedOf, stepOf};
+ghost use Rattle.machine.specs.Step.{counted, with, stepOf};
+ghost use Rattle.machine.specs.InPlace.{packed, stepIn};
 ghost use Rattle.machine.specs.Fresh.{begunOf, blankRecord};
 ghost use Rattle.machine.specs.Ready.{told, ready, allDelivered};
 
-mod ahead; // ahead.rt: where a message is, and what is ahead of it
+mod ahead; // ahead.rt: what is ahead of a message
 mod arrays; // arrays.rt: reads and stores in the record's arrays
 
 use nodes::MAX_NODES;
@@ -56,6 +59,12 @@ pub struct Stepped {
     pub answer: Answer,
 }
 
+// A move's answer beside the count of moves after it.
+pub struct Counted {
+    pub moves: usize,
+    pub answer: Answer,
+}
+
 // One successful move more; a count that is full stays full.
 fn count(moves: usize) -> usize
     ensures { λ r. ⌜ r ≡ counted moves ⌝ }
@@ -67,52 +76,67 @@ fn count(moves: usize) -> usize
     }
 }
 
-// The record after the message took its next channel.
-fn advance(record: Record, message: usize) -> Record
-    requires { ⌜ message < maxMessages ⌝ }
-    ensures { λ r. ⌜ r ≡ moved «record» message ⌝ }
+// One move of a message, in arrays that stay in their place. A message that arrives gives back only channels below `span`.
+pub fn step_in<'a>(
+    nodes: usize,
+    messages: usize,
+    moves: usize,
+    span: usize,
+    labels: &'a [u8],
+    free: &'a [u8],
+    falling: &'a [u8],
+    targets: &'a [u8],
+    heads: &mut [u8],
+    classes: &mut [u8],
+    delivered: &mut [u8],
+    holders: &mut [u16],
+    message: usize,
+) -> Counted
+    ensures { λ r. ⌜ with (packed nodes messages (r .moves) (now (labels .entry)) (now (free .entry)) (now (falling .entry)) (now (targets .entry)) (now (heads .exit)) (now (classes .exit)) (now (delivered .exit)) (now (holders .exit))) (r .answer) ≡ stepIn span (packed nodes messages moves (now (labels .entry)) (now (free .entry)) (now (falling .entry)) (now (targets .entry)) (now (heads .entry)) (now (classes .entry)) (now (delivered .entry)) (now (holders .entry))) message ⌝ }
 {
-    let holders = record.holders;
-    let held = arrays::hold(
-        holders,
-        ahead::next_channel(record, message),
-        (message + 1) as u16,
+    if few(messages) <= message {
+        return Counted {
+            moves,
+            answer: Answer::Refused(Refusal::Unknown(0)),
+        };
+    }
+    if ahead::marked(delivered, message) {
+        return Counted {
+            moves,
+            answer: Answer::Already,
+        };
+    }
+    let head = arrays::byte(heads, message);
+    let target = arrays::byte(targets, message);
+    if head == target {
+        arrays::release(holders, span, (message + 1) as u16);
+        arrays::put(delivered, message, 1);
+        return Counted {
+            moves: count(moves),
+            answer: Answer::Delivered,
+        };
+    }
+    let next = ahead::next_in(nodes, free, falling, targets, heads, classes, message);
+    let c = ahead::channel(head, next);
+    let holder = arrays::held(holders, c) as usize;
+    if holder != 0 {
+        let by = holder - 1;
+        return Counted {
+            moves,
+            answer: Answer::Blocked(by),
+        };
+    }
+    arrays::hold(holders, c, (message + 1) as u16);
+    arrays::put(heads, message, next);
+    let class = arrays::byte(classes, message);
+    arrays::put(
+        classes,
+        message,
+        ahead::class_after(labels, class, head, next),
     );
-    let heads = record.heads;
-    let nodes = arrays::put(heads, message, ahead::next_node(record, message));
-    let classes = record.classes;
-    let after = arrays::put(classes, message, ahead::class_after(record, message));
-    let mut next = record;
-    next.moves = count(record.moves);
-    next.heads = nodes;
-    next.classes = after;
-    next.holders = held;
-    next
-}
-
-// The record after the message is delivered and gave back all its channels.
-fn arrive(record: Record, message: usize) -> Record
-    requires { ⌜ message < maxMessages ⌝ }
-    ensures { λ r. ⌜ r ≡ arrived «record» message ⌝ }
-{
-    let channels = record.holders;
-    let left = arrays::release(channels, (message + 1) as u16);
-    let delivered = record.delivered;
-    let after = arrays::put(delivered, message, 1);
-    let mut next = record;
-    next.moves = count(record.moves);
-    next.delivered = after;
-    next.holders = left;
-    next
-}
-
-// The answer for a message that is not there.
-fn refused(record: Record) -> Stepped
-    ensures { λ r. ⌜ r ≡ refusedOf «record» ⌝ }
-{
-    Stepped {
-        record,
-        answer: Answer::Refused(Refusal::Unknown(0)),
+    Counted {
+        moves: count(moves),
+        answer: Answer::Moved,
     }
 }
 
@@ -120,35 +144,35 @@ fn refused(record: Record) -> Stepped
 pub fn step(record: Record, message: usize) -> Stepped
     ensures { λ r. ⌜ r ≡ stepOf «record» message ⌝ }
 {
-    if record.messages <= message {
-        return refused(record);
-    }
-    if MAX_MESSAGES <= message {
-        return refused(record);
-    }
-    if ahead::is_delivered(record, message) {
-        return Stepped {
-            record,
-            answer: Answer::Already,
-        };
-    }
-    if ahead::is_there(record, message) {
-        return Stepped {
-            record: arrive(record, message),
-            answer: Answer::Delivered,
-        };
-    }
-    let holder = ahead::next_holder(record, message) as usize;
-    if holder != 0 {
-        let by = holder - 1;
-        return Stepped {
-            record,
-            answer: Answer::Blocked(by),
-        };
-    }
+    let mut heads = record.heads;
+    let mut classes = record.classes;
+    let mut delivered = record.delivered;
+    let mut holders = record.holders;
+    let done = step_in(
+        record.nodes,
+        record.messages,
+        record.moves,
+        MAX_PAIRS,
+        &record.labels,
+        &record.free,
+        &record.falling,
+        &record.targets,
+        &mut heads,
+        &mut classes,
+        &mut delivered,
+        &mut holders,
+        message,
+    );
+    let answer = done.answer;
+    let mut after = record;
+    after.moves = done.moves;
+    after.heads = heads;
+    after.classes = classes;
+    after.delivered = delivered;
+    after.holders = holders;
     Stepped {
-        record: advance(record, message),
-        answer: Answer::Moved,
+        record: after,
+        answer,
     }
 }
 
@@ -213,18 +237,23 @@ pub fn is_ready(record: Record, message: usize) -> bool
     )
 }
 
-// Is every message delivered?
-pub fn all_delivered(record: Record) -> bool
-    ensures { λ r. ⌜ r ≡ allDelivered «record» ⌝ }
+// Is every message delivered, by their marks?
+pub fn all_delivered_in(messages: usize, delivered: &[u8]) -> bool
+    ensures { λ r. ⌜ r ≡ all (min messages maxMessages) (λ m. non (same (getD (now (delivered .entry)) m 0) 0)) ⌝ }
 {
-    let messages = few(record.messages);
-    let delivered = record.delivered;
-    for m in 0..messages {
-        if !ahead::marked(&delivered, m) {
+    for m in 0..few(messages) {
+        if !ahead::marked(delivered, m) {
             return false;
         }
     }
     true
+}
+
+// Is every message delivered?
+pub fn all_delivered(record: Record) -> bool
+    ensures { λ r. ⌜ r ≡ allDelivered «record» ⌝ }
+{
+    all_delivered_in(record.messages, &record.delivered)
 }
 
 // At most 256 messages.

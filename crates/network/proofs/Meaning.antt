@@ -19,8 +19,8 @@ use Rattle.graph.proofs.Reach.{reach-from, reach-walk}
 use Rattle.graph.proofs.Connected.{connected-iff, cut-iff}
 use Rattle.graph.proofs.Remaining.{avoid-among, joined-connected, splits-cut, links-degree}
 use Rattle.nodes.specs.Limits.{maxNodes}
-use Rattle.network.specs.Table.{linkedBy, linked, edgeOf, tableFrom, tableOf, remaining}
-use Rattle.network.proofs.Table.{edge-tableFrom}
+use Rattle.network.specs.Table.{linkedBy, linked, edgeOf, tableFrom, tableOf, remaining, struckOut}
+use Rattle.network.proofs.Table.{tableFrom-length, edge-tableFrom, struck-table}
 use Rattle.network.proofs.Links.{joins-ne, joins-ends, joins-swap}
 
 -- ---- a list of pairs makes a network
@@ -71,9 +71,10 @@ edge-remaining R edge m =
 
 module _ (R : ℕ → Bool) (edge : ℕ → ℕ → Bool) (m : Members maxNodes R) where
   -- striking out v leaves the table of what remains without v
-  pub strike-remaining : (v : ℕ) → tableFrom (avoid v (edgeOf (remaining R edge))) ≡ remaining (without R v) edge
+  pub strike-remaining : (v : ℕ) → struckOut v (remaining R edge) ≡ remaining (without R v) edge
   strike-remaining v =
-      ap (λ (e : ℕ → ℕ → Bool). tableFrom (avoid v e)) (edge-remaining R edge m) ∙ ap tableFrom (avoid-among R edge v)
+      struck-table v (remaining R edge) (tableFrom-length (among R edge))
+      ∙ ap (λ (e : ℕ → ℕ → Bool). tableFrom (avoid v e)) (edge-remaining R edge m) ∙ ap tableFrom (avoid-among R edge v)
 
   -- the count of ones is the remaining degree
   pub degree-remaining : (v : ℕ) → R v ≡ true → count maxNodes (edgeOf (remaining R edge) v) ≡ degree maxNodes edge R v

@@ -7,7 +7,7 @@ use Rattle.finite.specs.Truth.{_&_, _or_, non, same}
 use Rattle.finite.specs.Search.{any}
 use Rattle.finite.specs.Sets.{has, setOf}
 use Rattle.finite.specs.Lists.{tabulate}
-use Rattle.graph.specs.Network.{among}
+use Rattle.graph.specs.Network.{among, avoid}
 use Rattle.nodes.specs.Limits.{maxNodes}
 
 -- the pair (x, y) joins a and b: links are undirected, and no node is linked to itself
@@ -37,3 +37,7 @@ tableOf pairs = tableFrom (linked pairs)
 -- the table of the remaining graph: the links between two members of R
 abbrev pub remaining : (ℕ → Bool) → (ℕ → ℕ → Bool) → List ℕ
 remaining R edge = tableFrom (among R edge)
+
+-- a table of any length with v struck out: of its links those that do not touch v
+unfoldable pub struckOut : ℕ → List ℕ → List ℕ
+struckOut v t = tabulate (length t) (λ a. setOf maxNodes (avoid v (edgeOf t) a))

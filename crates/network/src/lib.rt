@@ -1,14 +1,14 @@
-// A network as a table of 64 neighbour words, made from byte pairs: strike a node out of a copy, flood, test connectedness, test for a cut node.
+// A network as a table of 64 neighbour words, made from byte pairs: keep some nodes, strike one out, flood, test connectedness, test for a cut node.
 ghost use mathlib.Core.Path.{_≡_};
 ghost use Prim.Native.Nat.{ℕ, _<_, _^_};
-ghost use lib.ListN.{getD};
+ghost use lib.ListN.{length, getD};
 ghost use Rattle.finite.specs.Truth.{_or_};
 ghost use Rattle.finite.specs.Sum.{count};
 ghost use Rattle.finite.specs.Sets.{has, setOf};
-ghost use Rattle.graph.specs.Network.{among, avoid};
+ghost use Rattle.graph.specs.Network.{among};
 ghost use Rattle.graph.specs.Reach.{reach, joined, splits};
 ghost use Rattle.nodes.specs.Limits.{maxNodes};
-ghost use Rattle.network.specs.Table.{joins, edgeOf, tableFrom, tableOf, remaining};
+ghost use Rattle.network.specs.Table.{joins, edgeOf, tableOf, remaining, struckOut};
 use nodes::MAX_NODES;
 
 // The byte at place i, 0 past the end.
@@ -32,24 +32,23 @@ pub fn degree(t: &[u64], v: usize) -> usize
     nodes::size(row(t, v))
 }
 
-// The table with a and b linked too.
-fn link(t: [u64; MAX_NODES], a: usize, b: usize) -> [u64; MAX_NODES]
-    ensures links { λ r. ⌜ ((x y : ℕ) → x < maxNodes → y < maxNodes → edgeOf r x y ≡ joins a b x y or edgeOf t x y) ⌝ }
-    ensures words { λ r. ⌜ ((x : ℕ) → getD t x 0 < 2 ^ maxNodes → getD r x 0 < 2 ^ maxNodes) ⌝ }
+// Links a and b in the table.
+fn link(t: &mut [u64], a: usize, b: usize)
+    requires { ⌜ length (now t) ≡ maxNodes ⌝ }
+    ensures links { λ _. ⌜ ((x y : ℕ) → x < maxNodes → y < maxNodes → edgeOf (now (t .exit)) x y ≡ joins a b x y or edgeOf (now (t .entry)) x y) ⌝ }
+    ensures words { λ _. ⌜ ((x : ℕ) → getD (now (t .entry)) x 0 < 2 ^ maxNodes → getD (now (t .exit)) x 0 < 2 ^ maxNodes) ⌝ }
 {
     if a == b {
-        return t;
+        return;
     }
     if MAX_NODES <= a {
-        return t;
+        return;
     }
     if MAX_NODES <= b {
-        return t;
+        return;
     }
-    let mut next = t;
-    next[a] = nodes::with(next[a], b);
-    next[b] = nodes::with(next[b], a);
-    next
+    t[a] = nodes::with(t[a], b);
+    t[b] = nodes::with(t[b], a);
 }
 
 // The neighbour table of a list of byte pairs.
@@ -58,8 +57,7 @@ pub fn table_of(pairs: &[u8]) -> [u64; MAX_NODES]
 {
     let mut t = [0u64; MAX_NODES];
     for i in 0..pairs.len() / 2 {
-        let s = link(t, byte_at(pairs, 2 * i), byte_at(pairs, 2 * i + 1));
-        t = s;
+        link(&mut t, byte_at(pairs, 2 * i), byte_at(pairs, 2 * i + 1));
     }
     t
 }
@@ -76,21 +74,27 @@ fn kept_row(row: u64, w: u64, u: usize) -> u64
 }
 
 // A copy of the table in which only the links between nodes of w are kept.
-pub fn restrict(t: [u64; MAX_NODES], w: u64) -> [u64; MAX_NODES]
-    ensures { λ r. ⌜ r ≡ remaining (has w) (edgeOf t) ⌝ }
+pub fn restrict(t: &[u64], w: u64) -> [u64; MAX_NODES]
+    ensures { λ r. ⌜ r ≡ remaining (has w) (edgeOf (now (t .entry))) ⌝ }
 {
-    let mut rest = t;
+    let mut rest = [0u64; MAX_NODES];
     for u in 0..MAX_NODES {
-        rest[u] = kept_row(rest[u], w, u);
+        rest[u] = kept_row(row(t, u), w, u);
     }
     rest
 }
 
-// A copy of the table with v struck out: none of its links is left, in either direction.
-pub fn strike(t: [u64; MAX_NODES], v: usize) -> [u64; MAX_NODES]
-    ensures { λ r. ⌜ r ≡ tableFrom (avoid v (edgeOf t)) ⌝ }
+// Strikes v out of the table: none of its links is left, in either direction.
+pub fn strike(t: &mut [u64], v: usize)
+    ensures { λ _. ⌜ now (t .exit) ≡ struckOut v (now (t .entry)) ⌝ }
 {
-    restrict(t, nodes::without(!0, v))
+    let others = nodes::without(!0, v);
+    for u in 0..t.len() {
+        t[u] = nodes::common(t[u], others);
+    }
+    if v < t.len() {
+        t[v] = 0;
+    }
 }
 
 // The nodes that walks lead to from the nodes of start.
@@ -103,7 +107,7 @@ pub fn flood(t: &[u64], start: u64) -> u64
         let v = nodes::lowest(front);
         let found = nodes::difference(row(t, v), seen);
         seen = nodes::union(seen, found);
-        front = nodes::union(nodes::without(front, v), found);
+        front = nodes::union(nodes::rest(front), found);
     }
     seen
 }
@@ -120,6 +124,7 @@ pub fn joined(t: &[u64], w: u64) -> bool
 pub fn splits(t: [u64; MAX_NODES], w: u64, v: usize) -> bool
     ensures { λ r. ⌜ r ≡ splits maxNodes (edgeOf t) (has w) v ⌝ }
 {
-    let rest = strike(t, v);
+    let mut rest = t;
+    strike(&mut rest, v);
     !joined(&rest, nodes::without(w, v))
 }

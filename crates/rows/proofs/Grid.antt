@@ -2,7 +2,7 @@
 use mathlib.Core.Path.{_≡_, refl, sym, _∙_, ap, ap₂}
 use mathlib.Core.Bool.{Bool, true, false}
 use mathlib.Core.List.{List}
-use Prim.Native.Nat.{ℕ, zero, suc, _+_, _-_, _*_, _/_, _%_, _≤_, _<_, zero-le}
+use Prim.Native.Nat.{ℕ, zero, suc, _+_, _*_, _/_, _%_, _≤_, _<_, zero-le}
 use native.Mathlib.Nat.{le-refl, not-suc-le-zero, mul-add-div-right, mul-add-mod-self-right, mod-eq-of-lt, mod-lt, div-eq-of-lt, div-add-mod', div-lt-iff-lt-mul, mul-le-mul, add-zero}
 use native.Mathlib.Omega.{arith}
 use lib.ListN.{length, getD, set, replicate, length-set, length-replicate}
@@ -45,7 +45,7 @@ square-pos zero i l = absurd (not-suc-le-zero l)
 square-pos (suc m) i l = omega arith
 
 -- one number more
-below-next : (a v : ℕ) → (a ≡ v → ⊥) → below a v ≡ below a (v + 1)
+pub below-next : (a v : ℕ) → (a ≡ v → ⊥) → below a v ≡ below a (v + 1)
 below-next a v d =
     iff _ _ (λ t. let l = below-lt _ _ t in lt-below (omega arith)) (λ t. let l = below-lt _ _ t in lt-below (omega arith))
 

@@ -1,5 +1,8 @@
-pub mod Fill
+pub mod Passing
 pub mod Joining
+pub mod Into
+pub mod Touched
+pub mod Frontier
 pub mod Rounds
 pub mod Grid
 pub mod Tabling

@@ -11,21 +11,22 @@ use Rattle.finite.specs.Truth.{_&_, _or_, non, same, below}
 use Rattle.finite.specs.Search.{any, least}
 use Rattle.finite.specs.Sets.{has, setOf}
 use Rattle.finite.specs.Lists.{tabulate}
-use Rattle.finite.proofs.Truth.{bcase, iff, and-l, and-r, and-true, and-false, false-and, same-eq, same-ne, below-lt, lt-below}
+use Rattle.finite.proofs.Truth.{no-tf, bcase, iff, and-true, and-false, false-and, or-l, or-r, or-case, same-eq, same-ne, below-lt, lt-below}
 use Rattle.finite.proofs.Search.{some-any, any-least, least-fact, least-cong}
-use Rattle.finite.proofs.Sets.{has-0, setOf-cong}
+use Rattle.finite.proofs.Sets.{has-0, has-setOf, setOf-cong, setOf-has, set-ext}
 use Rattle.finite.proofs.Lists.{tabulate-at, tabulate-ext, tabulate-cong}
 use Rattle.nodes.specs.Limits.{maxNodes}
 use Rattle.network.specs.Table.{edgeOf}
 use Rattle.network.proofs.Table.{edge-tableFrom}
 use Rattle.lawful.specs.Turn.{rises, falls}
 use Rattle.lawful.specs.Entry.{Layer, leads, joining, layer, lowestLead, none, entry}
-use Rattle.lawful.proofs.Layers.{side, layer-ext, layer-none, layer-more, layer-still, layer-rest}
+use Rattle.lawful.proofs.Layers.{side, layer-ext, layer-lt, layer-none, layer-more, layer-grow, layer-still, layer-rest}
 use Rattle.lawful.proofs.Entries.{entry-self, entry-joins, entry-never}
 use Rattle.rows.specs.Steps.{pick, rounds, waysOf, startOf, leadOf, halfOf, roundOf, sideAt, searchAt, OfWays, columnOf}
 use Rattle.rows.specs.declared.Side.{Side}
 use Rattle.rows.specs.declared.Search.{Search}
 use Rattle.rows.proofs.Joining.{side-ext}
+use Rattle.rows.proofs.Frontier.{gained}
 
 pub search-ext : {a b : Search} → a .free ≡ b .free → a .falling ≡ b .falling → a ≡ b
 search-ext p q = λ i. record { free = p i; falling = q i }
@@ -38,6 +39,10 @@ below-least n p = iff _ _ (λ t. let l = below-lt _ _ t in some-any n p (least n
 abbrev riseInto : Bool → Layer → ℕ
 riseInto true s = s .free
 riseInto false s = 0
+
+-- no node is in the second set that is not in the first
+abbrev Gainless : ℕ → ℕ → Type 0
+Gainless old next = (v : ℕ) → v < maxNodes → has next v ≡ true → has old v ≡ true
 
 module _ (edge : ℕ → ℕ → Bool) (label : ℕ → ℕ) where
   abbrev ups : List ℕ
@@ -136,15 +141,20 @@ module _ (edge : ℕ → ℕ → Bool) (label : ℕ → ℕ) where
 
     -- ---- the last round
 
-    pub still-last : (k : ℕ) → k ≤ rounds
-        → same (searchAt edge label t k .free .members) (searchAt edge label t (suc k) .free .members)
-        & same (searchAt edge label t k .falling .members) (searchAt edge label t (suc k) .falling .members) ≡ true
+    -- a class that gains no node stays as it is
+    stays : (c : Bool) (k : ℕ) → Gainless (side c (at k)) (side c (at (suc k))) → side c (at (suc k)) ≡ side c (at k)
+    stays c k h =
+        set-ext maxNodes _ (has (side c (at k))) (layer-lt maxNodes edge label t (suc k) c)
+        (λ v l. iff _ _ (h v l) (layer-grow maxNodes edge label t k (suc k) c v (omega arith)))
+        ∙ setOf-has maxNodes _ (layer-lt maxNodes edge label t k c)
+
+    pub still-last : (k : ℕ) → k ≤ rounds → Gainless (searchAt edge label t k .free .members) (searchAt edge label t (suc k) .free .members)
+        → Gainless (searchAt edge label t k .falling .members) (searchAt edge label t (suc k) .falling .members)
         → searchAt edge label t k ≡ searchAt edge label t rounds
     unfolding searchAt sideAt
-    still-last k l h =
-        let e : at (suc k) ≡ at k = layer-ext (sym (same-eq _ _ (and-l _ _ h))) (sym (same-eq _ _ (and-r _ _ h))) in
+    still-last k l f g =
         ap (λ (s : Layer). let r : Search = record { free = sideAt edge label t true (s .free); falling = sideAt edge label t false (s .fall) } in r)
-        (sym (layer-still maxNodes edge label t k e rounds l))
+        (sym (layer-still maxNodes edge label t k (layer-ext (stays true k f) (stays false k g)) rounds l))
 
     last-entries : (c : Bool) → sideOf c rounds .entries ≡ tabulate maxNodes (λ v. entry maxNodes edge label t c v)
     unfolding sideAt
@@ -172,8 +182,21 @@ module _ {t : ℕ} {up down : List ℕ} (low : t < maxNodes) where
   pub searching-more : {s next : Search} (k : ℕ) → Searching t up down s k → next ≡ roundOf up down s → Searching t up down next (k + 1)
   searching-more k h e = rw add-one (next-at k h e)
 
-  pub searching-still : {s next : Search} (k : ℕ) → Searching t up down s k → k ≤ rounds → next ≡ roundOf up down s
-      → same (s .free .members) (next .free .members) & same (s .falling .members) (next .falling .members) ≡ true → Searching t up down s rounds
-  searching-still k h l e w edge label p q =
+  -- where neither class has gained a node the search has come to its end
+  pub searching-still : {s next : Search} (k : ℕ) {newFree newFalling new : ℕ} → Searching t up down s k → k ≤ rounds → next ≡ roundOf up down s
+      → newFree ≡ setOf maxNodes (λ v. has (next .free .members) v & non (has (s .free .members) v))
+      → newFalling ≡ setOf maxNodes (λ v. has (next .falling .members) v & non (has (s .falling .members) v))
+      → new ≡ setOf maxNodes (λ v. has newFree v or has newFalling v) → new ≡ 0 → Searching t up down s rounds
+  searching-still {s} {next} k {newFree} {newFalling} h l e f g n z edge label p q =
       let a = h edge label p q in
-      a ∙ still-last edge label t low k l (rw (a, next-at k h e edge label p q) at w)
+      let b = next-at k h e edge label p q in
+      a ∙ still-last edge label t low k l (rw (a, b) at free) (rw (a, b) at falling)
+    where
+      none : (v : ℕ) → v < maxNodes → has newFree v or has newFalling v ≡ false
+      none v b = sym (has-setOf maxNodes _ v b) ∙ ap (λ (x : ℕ). has x v) (sym n ∙ z) ∙ has-0 v
+
+      free : Gainless (s .free .members) (next .free .members)
+      free v b i = or-case _ _ (gained _ _ f v b i) (λ j. j) (λ j. no-tf (or-l _ j) (none v b))
+
+      falling : Gainless (s .falling .members) (next .falling .members)
+      falling v b i = or-case _ _ (gained _ _ g v b i) (λ j. j) (λ j. no-tf (or-r _ j) (none v b))

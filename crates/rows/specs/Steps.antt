@@ -3,10 +3,10 @@
 use mathlib.Core.Path.{_≡_}
 use mathlib.Core.Bool.{Bool, true, false}
 use mathlib.Core.List.{List}
-use Prim.Native.Nat.{ℕ, _+_, _/_, _%_}
+use Prim.Native.Nat.{ℕ, _+_, _/_, _%_, _<_}
 use lib.ListN.{getD, set, replicate}
 use Rattle.finite.specs.Truth.{_&_, _or_, non, same, below}
-use Rattle.finite.specs.Search.{least}
+use Rattle.finite.specs.Search.{any, least}
 use Rattle.finite.specs.Sets.{has, setOf}
 use Rattle.finite.specs.Lists.{tabulate}
 use Rattle.nodes.specs.Limits.{maxNodes}
@@ -34,17 +34,35 @@ startOf t =
     let side : Side = record { members = setOf maxNodes (same t); entries = set (replicate maxNodes none) t t } in
     record { free = side; falling = side }
 
--- the lowest node to which a hop from v leads: up into the free set, or down into the falling one
+-- a hop from v leads to u: up into the free set, or down into the falling one
+abbrev pub leadsTo : List ℕ → List ℕ → ℕ → ℕ → ℕ → ℕ → Bool
+leadsTo up down free falling v u = edgeOf up v u & has free u or edgeOf down v u & has falling u
+
+-- the lowest such node
 unfoldable pub leadOf : List ℕ → List ℕ → ℕ → ℕ → ℕ → ℕ
-leadOf up down free falling v = least maxNodes (λ u. edgeOf up v u & has free u or edgeOf down v u & has falling u)
+leadOf up down free falling v = least maxNodes (leadsTo up down free falling v)
 
--- some hop leads from v
-unfoldable pub linkedIn : List ℕ → List ℕ → ℕ → Bool
-linkedIn up down v = non (same (getD up v 0) 0) or non (same (getD down v 0) 0)
+-- the words in which v has joined those of the nodes of the set
+unfoldable pub enteredOf : ℕ → ℕ → List ℕ → List ℕ
+enteredOf v set from = tableFrom (λ u a. edgeOf from u a or has set u & same v a)
 
--- the nodes from which some hop leads
-unfoldable pub linkedOf : List ℕ → List ℕ → ℕ
-linkedOf up down = setOf maxNodes (linkedIn up down)
+-- the words turned round: for each node those from which one of these hops leads to it
+unfoldable pub intoOf : List ℕ → List ℕ
+intoOf ways = tableFrom (λ u v. edgeOf ways v u)
+
+-- v is in the word of a node of the set
+unfoldable pub touches : List ℕ → ℕ → ℕ → Bool
+touches from set v = any maxNodes (λ u. has set u & edgeOf from u v)
+
+-- a node from which a hop leads into the two sets is a member, or worth asking
+abbrev pub Worth : List ℕ → List ℕ → ℕ → ℕ → ℕ → (ℕ → Bool) → Type 0
+Worth up down free falling members worth =
+    (v : ℕ) → v < maxNodes → below (leadOf up down free falling v) maxNodes ≡ true → has members v or worth v ≡ true
+
+-- who is asked in a round: for the free class the nodes of both words, for the falling one those of the second alone
+pub record Asking (up down : List ℕ) (s : Search) (rise fall : ℕ) : Type 0 where
+  pub free : Worth up down (s .free .members) (s .falling .members) (s .free .members) (λ v. has rise v or has fall v)
+  pub falling : Worth up down 0 (s .falling .members) (s .falling .members) (has fall)
 
 -- one class of a round: every node with such a hop joins, and has the lowest for its entry
 unfoldable pub halfOf : List ℕ → List ℕ → ℕ → ℕ → Side → Side

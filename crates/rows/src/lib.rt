@@ -2,13 +2,13 @@
 ghost use mathlib.Core.Path.{_≡_};
 ghost use Prim.Native.Nat.{_<_, _≤_, min};
 ghost use lib.ListN.{length, getD};
-ghost use Rattle.finite.specs.Truth.{_&_, _or_, same};
+ghost use Rattle.finite.specs.Truth.{_&_, _or_};
 ghost use Rattle.finite.specs.Search.{least};
 ghost use Rattle.finite.specs.Sets.{has, setOf};
 ghost use Rattle.nodes.specs.Limits.{maxNodes};
 ghost use Rattle.network.specs.Table.{edgeOf};
 ghost use Rattle.rows.specs.Tables.{tableSize, tablesOf};
-ghost use Rattle.rows.specs.Steps.{waysOf, startOf, linkedIn, linkedOf, halfOf, roundOf, rounds, searchAt, OfWays, columnOf, placedOf};
+ghost use Rattle.rows.specs.Steps.{waysOf, startOf, enteredOf, intoOf, touches, Worth, Asking, halfOf, roundOf, rounds, searchAt, OfWays, columnOf, placedOf};
 ghost use Rattle.rows.specs.Row.{rowKnown, rowIn, hopIn};
 use nodes::MAX_NODES;
 use refusal::Refusal;
@@ -76,44 +76,55 @@ fn lead(up: u64, down: u64, free: u64, falling: u64) -> usize
     nodes::lowest(nodes::union(nodes::common(up, free), nodes::common(down, falling)))
 }
 
-// The set of v alone where some hop leads from it, else the empty set.
-fn one_linked(up: &[u64], down: &[u64], v: usize) -> u64
-    ensures { λ r. ⌜ r ≡ setOf maxNodes (λ a. same v a & linkedIn (now (up .entry)) (now (down .entry)) a) ⌝ }
+// v joins the words of the nodes of the set.
+fn enter(from: &mut [u64], v: usize, set: u64)
+    requires { ⌜ length (now from) ≡ maxNodes ⌝ }
+    ensures { λ _. ⌜ now (from .exit) ≡ enteredOf v set (now (from .entry)) ⌝ }
 {
-    if network::row(up, v) != 0 {
-        return nodes::one(v);
-    }
-    if network::row(down, v) != 0 {
-        return nodes::one(v);
-    }
-    0
-}
-
-// The nodes from which some hop leads. Any other joins no search but that for itself.
-fn linked_nodes(up: &[u64], down: &[u64]) -> u64
-    ensures { λ r. ⌜ r ≡ linkedOf (now (up .entry)) (now (down .entry)) ⌝ }
-{
-    let mut found = 0u64;
-    let mut left = nodes::first(MAX_NODES);
+    let mut left = set;
     while left != 0 {
-        let v = nodes::lowest(left);
-        found = nodes::union(found, one_linked(up, down, v));
-        left = nodes::without(left, v);
+        let u = nodes::lowest(left);
+        left = nodes::rest(left);
+        from[u] = nodes::with(from[u], v);
     }
-    found
 }
 
-// One class of a round: every linked node that has not joined yet joins where a hop leads from it. All tests go by the sets free and falling.
-fn half(up: &[u64], down: &[u64], linked: u64, free: u64, falling: u64, side: Side) -> Side
-    requires { ⌜ linked ≡ linkedOf (now up) (now down) ⌝ }
+// The words turned round: for each node those from which one of these hops leads to it.
+fn into_of(ways: &[u64]) -> [u64; MAX_NODES]
+    ensures { λ r. ⌜ r ≡ intoOf (now (ways .entry)) ⌝ }
+{
+    let mut from = [0u64; MAX_NODES];
+    for v in 0..MAX_NODES {
+        enter(&mut from, v, network::row(ways, v));
+    }
+    from
+}
+
+// The nodes in the word of some node of the set.
+fn touching(from: &[u64], set: u64) -> u64
+    ensures { λ r. ⌜ r ≡ setOf maxNodes (touches (now (from .entry)) set) ⌝ }
+{
+    let mut all = 0u64;
+    let mut left = set;
+    while left != 0 {
+        let u = nodes::lowest(left);
+        left = nodes::rest(left);
+        all = nodes::union(all, network::row(from, u));
+    }
+    all
+}
+
+// One class of a round: every node worth asking that has not joined yet joins where a hop leads from it. All tests go by the sets free and falling.
+fn half(up: &[u64], down: &[u64], worth: u64, free: u64, falling: u64, side: Side) -> Side
+    requires { ⌜ Worth (now up) (now down) free falling (side .members) (has worth) ⌝ }
     ensures { λ r. ⌜ r ≡ halfOf (now (up .entry)) (now (down .entry)) free falling side ⌝ }
 {
     let mut members = side.members;
     let mut entries = side.entries;
-    let mut left = nodes::difference(linked, side.members);
+    let mut left = nodes::difference(worth, side.members);
     while left != 0 {
         let v = nodes::lowest(left);
-        left = nodes::without(left, v);
+        left = nodes::rest(left);
         let u = lead(network::row(up, v), network::row(down, v), free, falling);
         if u < MAX_NODES {
             entries[v] = u as u8;
@@ -123,41 +134,38 @@ fn half(up: &[u64], down: &[u64], linked: u64, free: u64, falling: u64, side: Si
     Side { members, entries }
 }
 
-// One round. What falls already can't rise: it has no free set to rise into.
-fn round(up: &[u64], down: &[u64], linked: u64, s: Search) -> Search
-    requires { ⌜ linked ≡ linkedOf (now up) (now down) ⌝ }
+// One round, which asks those who can rise to what is newly free and those who can fall to what is newly falling.
+// What falls already can't rise: it has no free set to rise into.
+fn round(up: &[u64], down: &[u64], rise: u64, fall: u64, s: Search) -> Search
+    requires { ⌜ Asking (now up) (now down) s rise fall ⌝ }
     ensures { λ r. ⌜ r ≡ roundOf (now (up .entry)) (now (down .entry)) s ⌝ }
 {
     let a = s.free;
     let b = s.falling;
-    let free = half(up, down, linked, a.members, b.members, a);
-    let falling = half(up, down, linked, 0, b.members, b);
+    let free = half(up, down, nodes::union(rise, fall), a.members, b.members, a);
+    let falling = half(up, down, fall, 0, b.members, b);
     Search { free, falling }
 }
 
-// Has no node joined between the two?
-fn still(s: Search, next: Search) -> bool
-    ensures { λ r. ⌜ r ≡ same (s .free .members) (next .free .members) & same (s .falling .members) (next .falling .members) ⌝ }
-{
-    let a = s.free;
-    let b = next.free;
-    if a.members != b.members {
-        return false;
-    }
-    let c = s.falling;
-    let d = next.falling;
-    c.members == d.members
-}
-
-// Rounds until no node joins.
-fn search_for(up: &[u64], down: &[u64], linked: u64, t: usize) -> Search
-    requires { ⌜ (t < maxNodes) × (linked ≡ linkedOf (now up) (now down)) ⌝ }
+// Rounds until no node joins. Only a node with a hop to what joined last can join, so only those are asked.
+fn search_for(up: &[u64], down: &[u64], over: &[u64], under: &[u64], t: usize) -> Search
+    requires { ⌜ (t < maxNodes) × (now over ≡ intoOf (now up)) × (now under ≡ intoOf (now down)) ⌝ }
     ensures { λ r. ⌜ OfWays (now (up .entry)) (now (down .entry)) (λ edge label. r ≡ searchAt edge label t rounds) ⌝ }
 {
     let mut s = start(t);
+    let mut new_free = nodes::one(t);
+    let mut new_falling = nodes::one(t);
     for k in 0..ROUNDS {
-        let next = round(up, down, linked, s);
-        if still(s, next) {
+        let rise = touching(over, new_free);
+        let fall = touching(under, new_falling);
+        let next = round(up, down, rise, fall, s);
+        let a = s.free;
+        let b = s.falling;
+        let c = next.free;
+        let d = next.falling;
+        new_free = nodes::difference(c.members, a.members);
+        new_falling = nodes::difference(d.members, b.members);
+        if nodes::union(new_free, new_falling) == 0 {
             return s;
         }
         s = next;
@@ -171,11 +179,11 @@ struct Column {
     falling: [u8; MAX_NODES],
 }
 
-fn column_of(up: &[u64], down: &[u64], linked: u64, t: usize) -> Column
-    requires { ⌜ (t < maxNodes) × (linked ≡ linkedOf (now up) (now down)) ⌝ }
+fn column_of(up: &[u64], down: &[u64], over: &[u64], under: &[u64], t: usize) -> Column
+    requires { ⌜ (t < maxNodes) × (now over ≡ intoOf (now up)) × (now under ≡ intoOf (now down)) ⌝ }
     ensures { λ r. ⌜ OfWays (now (up .entry)) (now (down .entry)) (λ edge label. r ≡ columnOf edge label t) ⌝ }
 {
-    let s = search_for(up, down, linked, t);
+    let s = search_for(up, down, over, under, t);
     let a = s.free;
     let b = s.falling;
     let free = a.entries;
@@ -207,11 +215,12 @@ pub fn tables_of(t: &[u64], labels: &[u8], n: usize) -> Tables
     let ways = ways_of(t, labels);
     let up = ways.up;
     let down = ways.down;
-    let linked = linked_nodes(&up, &down);
+    let over = into_of(&up);
+    let under = into_of(&down);
     let mut free = [0u8; TABLE];
     let mut falling = [0u8; TABLE];
     for d in 0..m {
-        let c = column_of(&up, &down, linked, d);
+        let c = column_of(&up, &down, &over, &under, d);
         let a = c.free;
         let b = c.falling;
         place(&mut free, &a, m, d);

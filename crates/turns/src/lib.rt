@@ -30,7 +30,7 @@ fn lower(labels: &[u8], w: u64, x: usize) -> u64
     while left != 0 {
         let u = nodes::lowest(left);
         found = nodes::union(found, one_lower(labels, u, x));
-        left = nodes::without(left, u);
+        left = nodes::rest(left);
     }
     found
 }

@@ -1,58 +1,86 @@
 -- `draining::drain` meets its contract, and ends: each turn leaves one move less to make of demand 3's sum.
 use mathlib.Core.Path.{_≡_, sym, _∙_}
 use mathlib.Core.Bool.{false}
-use Prim.Native.Nat.{_-_}
+use Prim.Native.Nat.{_*_, _-_, min}
+use native.Mathlib.Omega.{arith}
 use denote.Ref.{now}
 use Rattle.finite.proofs.Truth.{non-true, non-false, not-non}
 use Rattle.refusal.specs.declared.Verdict.the-variants.{Fine}
+use Rattle.nodes.specs.Limits.{maxNodes}
+use Rattle.machine.specs.Step.{isDelivered}
+use Rattle.machine.specs.InPlace.{packed}
 use Rattle.machine.specs.Ready.{allDelivered}
 use Rattle.start.specs.Start.{startFault}
 use Rattle.draining.specs.Drained.{sumOf}
 use Rattle.draining.proofs.Answers.{started-refused, started-fine, started-fresh, drained-is}
-use Rattle.draining.proofs.Running.{Running, running-fresh, running-more, running-less, running-all}
+use Rattle.draining.proofs.Running.{Running, running-fresh, running-more, running-less, running-all, running-marks, running-free}
 use borrow.Author.Needs.{needs}
 use Rattle.draining.proofs.drain.Statement.{statement}
 use Rattle.draining.proofs.drain.Tie as tie
 
 abbrev Inv-loop : tie.InvT-loop
-Inv-loop image list seed last₀ next₀ last next = Running image list seed next last
+Inv-loop image list seed nodes messages labels free falling targets heads₀ classes₀ delivered₀ holders₀ moves₀ next₀ span heads classes delivered holders moves next =
+    Running image list seed next (packed nodes messages moves labels free falling targets heads classes delivered holders)
+    × (span ≡ maxNodes * min nodes maxNodes)
 
 abbrev μ-loop : tie.MeasureT-loop
-μ-loop image list seed last₀ next₀ last next = sumOf image list - last .moves
+μ-loop image list seed nodes messages labels free falling targets heads₀ classes₀ delivered₀ holders₀ moves₀ next₀ span heads classes delivered holders moves next = sumOf image list - moves
 
+-- where the start is known to be fine, from the loop back to there, and from a turn back to the loop's test
 fine-at : (c : tie.After-enum-told Inv-loop μ-loop) → let a = c .before .before .before .before .before .before .args in startFault (now (a .image)) (now (a .list)) ≡ Fine
 fine-at c =
     let s = c .before .before .before in
     let a = s .before .before .before .args in
-    started-fine (a .«record») (now (a .image)) (now (a .list)) (a .seed) (s .started .ensures) (c .enum-told .given .1)
+    started-fine (a .«record») (now (a .image)) (now (a .list)) (a .seed) (s .start .ensures) (c .enum-told .given .1)
 
-undelivered : (c : tie.Then1 Inv-loop μ-loop) → allDelivered (c .before .before .loop .last) ≡ false
-undelivered c = sym (c .before .all-delivered .ensures) ∙ non-true _ (sym (not-non _) ∙ c .if1 .taken)
+abbrev told-of : tie.At-loop Inv-loop μ-loop → tie.After-enum-told Inv-loop μ-loop
+told-of l = l .before .before .before .before .before .before .before .before .before .before
+
+abbrev test-of : tie.After-holders2 Inv-loop μ-loop → tie.Then1 Inv-loop μ-loop
+test-of c = c .before .before .before .before .before .before .before .before
+
+undelivered : (c : tie.Then1 Inv-loop μ-loop) → c .before .all-delivered-in .result ≡ false
+undelivered c = non-true _ (sym (not-non _) ∙ c .if1 .taken)
 
 returns : tie.Need-returns Inv-loop μ-loop
-returns c = started-refused _ _ _ _ (c .before .before .before .before .started .ensures) _ (c .before .verdict .given .1)
+returns c = started-refused _ _ _ _ (c .before .before .before .before .start .ensures) _ (c .before .verdict .given .1)
 
 loop-holds : tie.Need-loop-holds Inv-loop μ-loop
 loop-holds c =
-    let s = c .before .before .before in
+    let f = c .before .before .before .before .before .before .before .before .before in
+    let s = f .before .before .before in
     let a = s .before .before .before .args in
-    rw (started-fresh _ _ _ (a .seed) (s .started .ensures) (c .enum-told .given .1)) (running-fresh _ _ (fine-at c) (a .seed))
+    let r : Running (now (a .image)) (now (a .list)) (a .seed) (a .seed) (s .start .result .«record») =
+    rw (started-fresh _ _ _ (a .seed) (s .start .ensures) (f .enum-told .given .1)) (running-fresh _ _ (fine-at f) (a .seed)) in
+    let e = c .capped .ensures in
+    (r, omega arith)
+
+marks-size : tie.Need-slice-aggregate-all-delivered-in Inv-loop μ-loop
+marks-size c = let l = c .before in sym (running-marks _ _ (fine-at (told-of l)) (l .loop .inv .0))
+
+turn-in-requires : tie.Need-turn-in-requires Inv-loop μ-loop
+turn-in-requires c κs = let l = test-of c .before .before .before in running-free _ _ (fine-at (told-of l)) (l .loop .inv .0) _ (l .loop .inv .1)
 
 loop-less : tie.Need-loop-less Inv-loop μ-loop
+unfolding allDelivered isDelivered
 loop-less c =
-    let l = c .before .before .before .before in
-    rw (c .before .turn .ensures) (running-less _ _ (fine-at (l .before)) (l .loop .inv) (undelivered (c .before .before)))
+    let t = test-of (c .before) in
+    let l = t .before .before .before in
+    running-less _ _ (fine-at (told-of l)) (l .loop .inv .0) (c .turn-in .ensures) (sym (t .before .all-delivered-in .ensures) ∙ undelivered t)
 
 loop-again : tie.Need-loop-again Inv-loop μ-loop
+unfolding allDelivered isDelivered
 loop-again c =
-    let l = c .before .before .before .before in
-    rw (c .before .turn .ensures) (running-more _ _ (fine-at (l .before)) (l .loop .inv) (undelivered (c .before .before)))
+    let t = test-of (c .before) in
+    let l = t .before .before .before in
+    (running-more _ _ (fine-at (told-of l)) (l .loop .inv .0) (c .turn-in .ensures) (sym (t .before .all-delivered-in .ensures) ∙ undelivered t), l .loop .inv .1)
 
 returns-2 : tie.Need-returns-2 Inv-loop μ-loop
+unfolding allDelivered isDelivered
 returns-2 c =
-    let l = c .before .before in
-    drained-is _ _ _ _ (fine-at (l .before))
-    (running-all _ _ (fine-at (l .before)) (l .loop .inv) (sym (c .before .all-delivered .ensures) ∙ non-false _ (sym (not-non _) ∙ c .if1 .left)))
+    let l = c .before .before .before in
+    drained-is _ _ _ _ (fine-at (told-of l))
+    (running-all _ _ (fine-at (told-of l)) (l .loop .inv .0) (sym (c .before .all-delivered-in .ensures) ∙ non-false _ (sym (not-non _) ∙ c .if1 .left)))
 
 pub drain-spec : {M : Type 1} → statement M
 drain-spec =
@@ -64,9 +92,12 @@ drain-spec =
     (λ c. search needs)
     returns
     (λ c. search needs)
+    (λ c κs. search needs)
+    (λ c. search needs)
     loop-holds
+    marks-size
     (λ c κs. search needs)
-    (λ c κs. search needs)
+    turn-in-requires
     loop-less
     loop-again
     returns-2)

@@ -1,21 +1,18 @@
--- `draining::turn` meets its contract.
-use Prim.Native.Nat.{_≤_}
-use native.Mathlib.Omega.{arith}
-use Rattle.order.proofs.Places.{look-le}
-use Rattle.draining.proofs.Answers.{turned-is}
+-- `draining::turn` meets its contract: past the end of the holders no channel is held.
+use mathlib.Core.Path.{_≡_}
+use lib.ListN.{length}
+use Rattle.machine.specs.Sizes.{maxPairs}
+use Rattle.machine.proofs.InPlace.{free-past}
 use borrow.Author.Needs.{needs}
 use Rattle.draining.proofs.turn.Statement.{statement}
 use Rattle.draining.proofs.turn.Tie as tie
 
-choice-requires : tie.Need-choice-requires
-choice-requires c κs = let l : c .look .result ≤ c .before .few .result = rw (c .look .ensures) (look-le _ _) in omega arith
+holders-size : (c : tie.Start) → length (c .args .t2 .holders) ≡ maxPairs
+holders-size c = search needs
 
-returns : tie.Need-returns
-returns c =
-    let m = c .before .before in
-    let l = m .before in
-    let n = l .before in
-    turned-is _ _ (n .before .next-seed .ensures) (n .few .ensures) (l .look .ensures) (m .choice .ensures) (c .before .moved .ensures)
+turn-in-requires : tie.Need-turn-in-requires
+turn-in-requires c κs =
+    free-past (holders-size (c .before .before .before .before .before .before .before .before .before .before .before .before .before))
 
 pub turn-spec : {M : Type 1} → statement M
-turn-spec = tie.close (tie.spec (λ c κs. search needs) (λ c κs. search needs) (λ c κs. search needs) choice-requires (λ c κs. search needs) returns)
+turn-spec = tie.close (tie.spec turn-in-requires (λ c. search needs))

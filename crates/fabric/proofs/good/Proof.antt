@@ -8,14 +8,16 @@ returns : tie.Need-returns
 returns c =
     let tab = c .before .before in
     let lab = tab .before .before .before in
-    let start = lab .before .before .before in
-    fabric-made (start .pre) _ _ _ (lab .before .table-of .ensures) (lab .labels .ensures) (tab .tables-of .ensures)
+    let table = lab .before .before in
+    let start = table .before .before in
+    fabric-made (start .pre) _ _ _ (table .table-of .ensures) (lab .labels .ensures) (tab .tables-of .ensures)
 
 pub good-spec : {M : Type 1} → statement M
 good-spec =
     tie.close
     (tie.spec
     (λ c κs. search needs)
+    (λ c. search needs)
     (λ c κs. search needs)
     (λ c. search needs)
     (λ c. search needs)

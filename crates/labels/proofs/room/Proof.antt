@@ -1,5 +1,5 @@
 -- `labels::room` meets its contract: the sum over the links, taken one by one.
-use mathlib.Core.Path.{_≡_, _∙_, ap, ap₂}
+use mathlib.Core.Path.{_≡_, refl, _∙_, ap, ap₂}
 use mathlib.Core.List.{List}
 use Prim.Native.Nat.{ℕ, _+_, _*_, _-_, _≤_}
 use native.Mathlib.Nat.{zero-add, mul-le-mul}
@@ -10,7 +10,7 @@ use Rattle.finite.specs.Sum.{count, sumIf}
 use Rattle.finite.specs.Sets.{has}
 use Rattle.finite.proofs.Sum.{count-bound}
 use Rattle.nodes.specs.Limits.{maxNodes}
-use Rattle.nodes.proofs.Words.{next-less}
+use Rattle.nodes.proofs.Words.{next-less, rest-at}
 use Rattle.network.specs.Table.{edgeOf}
 use Rattle.labels.specs.Links.{roomBy}
 use Rattle.labels.proofs.Members.{Summing, summing-more, summing-all, sum-bound}
@@ -52,14 +52,15 @@ add-sum c =
 loop-less : tie.Need-loop-less Inv-loop μ-loop
 loop-less c =
     let l = c .before .before .before .before .before in
-    next-less maxNodes (l .loop .inv .1) (c .before .before .before .before .loop-test .taken) (c .before .before .before .lowest .ensures) (c .without .ensures)
+    next-less maxNodes (l .loop .inv .1) (c .before .before .before .before .loop-test .taken) refl (c .rest .ensures)
 
 loop-again : tie.Need-loop-again Inv-loop μ-loop
 loop-again c =
     let l = c .before .before .before .before .before in
     summing-more maxNodes (around (l .before .before .before .before .args .t .now)) _ (l .loop .sum) (l .loop .left) (l .loop .inv)
     (c .before .before .before .before .loop-test .taken) (c .before .before .before .lowest .ensures)
-    (c .before .less-one .ensures ∙ ap (λ (x : ℕ). x - 1) (c .before .before .degree2 .ensures)) (c .without .ensures) (omega arith)
+    (c .before .less-one .ensures ∙ ap (λ (x : ℕ). x - 1) (c .before .before .degree2 .ensures)) (rest-at maxNodes _ (c .before .before .before .lowest .ensures) (c .rest .ensures))
+    (omega arith)
 
 mul-result : tie.Need-mul-result Inv-loop μ-loop
 mul-result c =

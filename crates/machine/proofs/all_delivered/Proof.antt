@@ -1,37 +1,13 @@
--- `machine::all_delivered` meets its contract. The invariant: every message passed is delivered.
-use mathlib.Core.Path.{_≡_, sym, _∙_}
-use mathlib.Core.Bool.{true}
-use Prim.Native.Nat.{ℕ, _-_, _≤_, _<_}
-use native.Mathlib.Omega.{arith}
-use borrow.Author.Count.{below-none, below-more}
-use borrow.Author.Needs.{needs}
-use lib.ListN.{getD}
-use Rattle.finite.specs.Truth.{non, same}
-use Rattle.finite.proofs.Truth.{non-true, non-false, not-non}
+-- `machine::all_delivered` meets its contract.
 use Rattle.machine.specs.Step.{isDelivered}
-use Rattle.machine.proofs.Ready.{every-delivered, one-undelivered}
+use Rattle.machine.specs.Ready.{allDelivered}
+use borrow.Author.Needs.{needs}
 use Rattle.machine.proofs.all_delivered.Statement.{statement}
 use Rattle.machine.proofs.all_delivered.Tie as tie
 
-abbrev Inv-loop : tie.InvT-loop
-Inv-loop messages delivered m₀ m = ((q : ℕ) → q < m → non (same (getD delivered q 0) 0) ≡ true) × (m ≤ messages)
-
-abbrev μ-loop : tie.MeasureT-loop
-μ-loop messages delivered m₀ m = messages - m
-
-loop-holds : tie.Need-loop-holds Inv-loop μ-loop
-loop-holds c = (below-none _, omega arith)
-
-returns : tie.Need-returns Inv-loop μ-loop
-unfolding isDelivered
-returns c = one-undelivered _ _ (omega arith) (sym (c .before .marked .ensures) ∙ non-true _ (sym (not-non _) ∙ c .if1 .taken))
-
-loop-again : tie.Need-loop-again Inv-loop μ-loop
-loop-again c = (below-more _ _ (c .before .before .before .before .loop .inv .0) (sym (c .before .marked .ensures) ∙ non-false _ (sym (not-non _) ∙ c .if1 .left)), omega arith)
-
-returns-2 : tie.Need-returns-2 Inv-loop μ-loop
-unfolding isDelivered
-returns-2 c = every-delivered _ (λ q l. c .before .loop .inv .0 q (omega arith))
+returns : tie.Need-returns
+unfolding allDelivered isDelivered
+returns c = c .all-delivered-in .ensures
 
 pub all-delivered-spec : {M : Type 1} → statement M
-all-delivered-spec = tie.close (tie.spec Inv-loop μ-loop (λ c κs. search needs) loop-holds (λ c. search needs) (λ c κs. search needs) returns (λ c. omega arith) (λ c. omega arith) loop-again returns-2)
+all-delivered-spec = tie.close (tie.spec (λ c κs. search needs) returns)

@@ -7,6 +7,7 @@ use Rattle.finite.proofs.Sets.{has-0, setOf-has, set-ext}
 use Rattle.graph.proofs.Flood.{Flooding, Visit, unvisited, flood-none, flood-more, flood-less, flood-all}
 use Rattle.graph.proofs.Reach.{reach-lt}
 use Rattle.nodes.specs.Limits.{maxNodes}
+use Rattle.nodes.proofs.Words.{rest-at}
 use Rattle.network.specs.Table.{edgeOf}
 use Rattle.network.proofs.Table.{Words, edge-inside}
 use Rattle.network.proofs.Visit.{visit}
@@ -33,7 +34,7 @@ turn c =
     let r = f .before .before in
     let l = r .before .before .before in
     visit _ _ _ (l .loop .inv .2) (r .before .before .loop-test .taken) (r .before .lowest .ensures) (r .row .ensures) (f .before .difference .ensures)
-    (f .union .ensures) (c .before .without .ensures) (c .union2 .ensures)
+    (f .union .ensures) (rest-at maxNodes _ (r .before .lowest .ensures) (c .before .rest .ensures)) (c .union2 .ensures)
 
 loop-less : tie.Need-loop-less Inv-loop μ-loop
 loop-less c = flood-less (c .before .before .before .before .before .before .before .loop .inv .0) (turn c)

@@ -1,5 +1,7 @@
 -- `network::link` meets its contract: a pair outside the limits adds nothing, any other adds both directions.
 use native.Mathlib.Omega.{arith}
+use denote.Ref.{now}
+use lib.ListN.{length-set}
 use borrow.Author.Needs.{needs}
 use Rattle.network.proofs.Links.{joins-ends, joins-ne, link-none, link-one, link-words}
 use Rattle.network.proofs.link.Statement.{statement}
@@ -16,10 +18,12 @@ returns-3 c = (link-none _ _ _ (λ x y k l j. joins-ends _ _ x y j (λ e f. let 
 
 returns-4 : tie.Need-returns-4
 returns-4 c =
-    let a = c .before .before .before .before .before .args in
-    let d = c .before .before .before .before .if1 .left in (
-      link-one (a .t) (a .a) (a .b) (omega arith) d (omega arith) (omega arith) (c .before .with .ensures) (c .with2 .ensures),
-      link-words (a .t) (a .a) (a .b) (omega arith) d (omega arith) (omega arith) (c .before .with .ensures) (c .with2 .ensures),
+    let w = c .before .before in
+    let d = w .before .before .before .before in
+    let start = d .before .before in
+    let a = start .args in (
+      link-one (now (a .t)) (a .a) (a .b) (start .pre) (d .if1 .left) (omega arith) (omega arith) (w .with .ensures) (c .with2 .ensures),
+      link-words (now (a .t)) (a .a) (a .b) (start .pre) (d .if1 .left) (omega arith) (omega arith) (w .with .ensures) (c .with2 .ensures),
     )
 
 pub link-spec : {M : Type 1} → statement M
@@ -35,8 +39,9 @@ link-spec =
     (λ c. search needs)
     (λ c. search needs)
     (λ c. search needs)
-    (λ c. search needs)
+    (λ c. simp length-set (omega arith))
     (λ c κs. search needs)
     (λ c. search needs)
+    (λ c. simp length-set (omega arith))
     (λ c. search needs)
     returns-4)

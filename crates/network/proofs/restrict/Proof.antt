@@ -1,26 +1,37 @@
--- `network::restrict` meets its contract. The invariant: rows passed are restricted, the others are as they were.
-use Prim.Native.Nat.{_-_, _≤_}
+-- `network::restrict` meets its contract. The invariant: rows passed are restricted.
+use mathlib.Core.Path.{_∙_, ap}
+use Prim.Native.Nat.{ℕ, _-_, _≤_}
 use native.Mathlib.Omega.{arith}
-use Rattle.finite.specs.Sets.{has}
+use Rattle.finite.specs.Sets.{has, setOf}
+use Rattle.graph.specs.Network.{among}
 use Rattle.nodes.specs.Limits.{maxNodes}
-use Rattle.network.proofs.Table.{Restricting, restrict-none, restrict-more, restrict-all}
+use Rattle.network.specs.Table.{edgeOf, tableFrom}
+use Rattle.finite.proofs.Filling.{Filling, filling-none, filling-more, filling-all}
 use Rattle.network.proofs.restrict.Statement.{statement}
 use Rattle.network.proofs.restrict.Tie as tie
 
 abbrev Inv-loop : tie.InvT-loop
-Inv-loop w rest₀ u₀ rest u = Restricting (has w) rest₀ rest u × (u ≤ maxNodes)
+Inv-loop t w rest₀ u₀ rest u = Filling (λ a. setOf maxNodes (among (has w) (edgeOf t) a)) rest₀ rest u × (u ≤ maxNodes)
 
 abbrev μ-loop : tie.MeasureT-loop
-μ-loop w rest₀ u₀ rest u = maxNodes - u
+μ-loop t w rest₀ u₀ rest u = maxNodes - u
 
 loop-holds : tie.Need-loop-holds Inv-loop μ-loop
-loop-holds c = (restrict-none _ _ (omega arith), omega arith)
+loop-holds c = (filling-none _ _, omega arith)
 
 loop-again : tie.Need-loop-again Inv-loop μ-loop
-loop-again c = (restrict-more _ (c .before .before .loop .inv .0) (omega arith) (c .kept-row .ensures), omega arith)
+unfolding among edgeOf
+loop-again c =
+    let r = c .before in
+    let l = r .before .before in (
+      filling-more _ (l .loop .inv .0) (omega arith)
+          (c .kept-row .ensures ∙ ap (λ (x : ℕ). setOf maxNodes (among (has (l .before .before .args .w)) (λ a b. has x b) (l .loop .u))) (r .row .ensures)),
+      omega arith,
+    )
 
 returns : tie.Need-returns Inv-loop μ-loop
-returns c = restrict-all (c .before .loop .inv .0) (c .loop-test .left)
+unfolding tableFrom
+returns c = filling-all maxNodes (c .before .loop .inv .0) (omega arith) (c .loop-test .left)
 
 pub restrict-spec : {M : Type 1} → statement M
 restrict-spec =
@@ -29,8 +40,7 @@ restrict-spec =
     Inv-loop
     μ-loop
     loop-holds
-    (λ c. omega arith)
-    (λ c. omega arith)
+    (λ c κs. tt)
     (λ c κs. tt)
     (λ c. omega arith)
     (λ c. omega arith)

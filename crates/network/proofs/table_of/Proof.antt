@@ -1,5 +1,5 @@
 -- `network::table_of` meets its contract. The invariant: the table holds the links of the pairs passed.
-use mathlib.Core.Path.{_≡_}
+use mathlib.Core.Path.{_≡_, sym}
 use Prim.Native.Nat.{_-_, _/_, _≤_}
 use native.Mathlib.Omega.{arith}
 use lib.ListN.{length}
@@ -18,9 +18,10 @@ loop-holds c = (linking-none _, omega arith, omega arith)
 
 loop-again : tie.Need-loop-again Inv-loop μ-loop
 loop-again c =
-    let inv = c .before .before .before .before .loop .inv .0 in (
-      linking-more inv (c .before .before .byte-at .ensures) (c .before .byte-at2 .ensures) (omega arith) (λ a. c .link .ensures .1 a (inv .words a))
-          (c .link .ensures .0),
+    let k = c .before in
+    let b = k .before .before in
+    let inv = b .before .before .before .loop .inv .0 in (
+      linking-more inv (b .byte-at .ensures) (k .before .byte-at2 .ensures) (omega arith) (λ a. k .link .ensures .1 a (inv .words a)) (k .link .ensures .0),
       omega arith,
       omega arith,
     )
@@ -35,12 +36,13 @@ table-of-spec =
     Inv-loop
     μ-loop
     loop-holds
+    (λ c. sym (c .before .before .loop .inv .0 .size))
     (λ c. omega arith)
     (λ c κs. tt)
     (λ c. omega arith)
     (λ c. omega arith)
     (λ c κs. tt)
-    (λ c κs. tt)
+    (λ c κs. c .before .before .before .before .loop .inv .0 .size)
     (λ c. omega arith)
     (λ c. omega arith)
     loop-again

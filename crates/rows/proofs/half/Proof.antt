@@ -1,41 +1,32 @@
 -- `rows::half` meets its contract. The invariant: the nodes passed have joined where a hop leads from them.
 use mathlib.Core.Path.{_≡_, sym, _∙_}
-use Prim.Native.Nat.{_<_}
 use native.Mathlib.Omega.{arith}
 use lib.ListN.{length-map}
-use Rattle.nodes.proofs.Words.{lowest-lt, next-less}
-use Rattle.nodes.specs.Limits.{maxNodes}
 use Rattle.network.specs.Table.{edgeOf}
 use Rattle.rows.specs.Steps.{leadOf}
+use Rattle.rows.proofs.Passing.{Pass, pass}
 use Rattle.rows.proofs.Joining.{Halving, halving-none, halving-joins, halving-stays, halving-all}
 use Rattle.rows.proofs.half.Statement.{statement}
 use Rattle.rows.proofs.half.Tie as tie
 
 abbrev Inv-loop : tie.InvT-loop
-Inv-loop up down linked free falling members₀ entries₀ left₀ members entries left = Halving (leadOf up down free falling) members₀ entries₀ members entries left
+Inv-loop up down worth free falling members₀ entries₀ left₀ members entries left = Halving (leadOf up down free falling) members₀ entries₀ members entries left
 
 abbrev μ-loop : tie.MeasureT-loop
-μ-loop up down linked free falling members₀ entries₀ left₀ members entries left = left
+μ-loop up down worth free falling members₀ entries₀ left₀ members entries left = left
 
 -- the array that the struct holds has its length from what owning the struct tells
 loop-holds : tie.Need-loop-holds Inv-loop μ-loop
 loop-holds c =
     let b = c .before .before .before .before in
     let side = b .good .1 .1 .1 .1 .1 .0 in
-    halving-none _ _ _ _ _ (omega arith) (sym (length-map (b .args .side .entries) (λ x. x)) ∙ side .1 .1 .1 .0 .1 .0 .1) (b .pre) (c .difference .ensures)
+    halving-none _ _ _ _ _ _ (omega arith) (sym (length-map (b .args .side .entries) (λ x. x)) ∙ side .1 .1 .1 .0 .1 .0 .1) (b .pre) (c .difference .ensures)
 
-array-write-entries : tie.Need-array-write-entries Inv-loop μ-loop
-array-write-entries c =
-    let v = c .before .before .before .before .before in
-    rw (v .lowest .ensures) (lowest-lt maxNodes _ (v .before .before .loop .inv .rest) (v .before .loop-test .taken))
-
-less : (c : tie.After-without Inv-loop μ-loop) → c .without .result < c .before .before .before .loop .left
-less c =
+-- the node is passed
+passes : (c : tie.After-rest Inv-loop μ-loop) → Pass (c .before .before .before .loop .left) (c .before .lowest .result) (c .rest .result)
+passes c =
     let v = c .before in
-    next-less maxNodes (v .before .before .loop .inv .rest) (v .before .loop-test .taken) (v .lowest .ensures) (c .without .ensures)
-
-loop-less : tie.Need-loop-less Inv-loop μ-loop
-loop-less c = less (c .before .before .before .before .before)
+    pass (v .before .before .loop .inv .left-word) (v .before .loop-test .taken) (v .lowest .ensures) (c .rest .ensures)
 
 -- the hop that leads from the node
 leads : (c : tie.After-lead Inv-loop μ-loop) →
@@ -48,20 +39,14 @@ leads c = c .lead .ensures ∙ rw (c .before .before .row .ensures, c .before .r
 loop-again : tie.Need-loop-again Inv-loop μ-loop
 loop-again c =
     let l = c .before .before in
-    let w = l .before .before .before in
-    let v = w .before in
-    halving-joins (v .before .before .loop .inv) (v .before .loop-test .taken) (v .lowest .ensures) (w .without .ensures) (leads l) (c .before .if1 .taken)
-    (c .with .ensures)
-
-loop-less-2 : tie.Need-loop-less-2 Inv-loop μ-loop
-loop-less-2 c = less (c .before .before .before .before)
+    let r = l .before .before .before in
+    halving-joins (r .before .before .before .loop .inv) (passes r) (leads l) (c .before .if1 .taken) (c .with .ensures)
 
 loop-again-2 : tie.Need-loop-again-2 Inv-loop μ-loop
 loop-again-2 c =
     let l = c .before in
-    let w = l .before .before .before in
-    let v = w .before in
-    halving-stays (v .before .before .loop .inv) (v .before .loop-test .taken) (v .lowest .ensures) (w .without .ensures) (leads l) (c .if1 .left)
+    let r = l .before .before .before in
+    halving-stays (r .before .before .before .loop .inv) (passes r) (leads l) (c .if1 .left)
 
 returns : tie.Need-returns Inv-loop μ-loop
 returns c = halving-all _ _ _ _ _ (c .before .loop .inv) (c .loop-test .left)
@@ -80,10 +65,10 @@ half-spec =
     (λ c κs. tt)
     (λ c κs. tt)
     (λ c. omega arith)
-    array-write-entries
+    (λ c. passes (c .before .before .before .before) .node)
     (λ c κs. tt)
-    loop-less
+    (λ c. passes (c .before .before .before .before .before) .less)
     loop-again
-    loop-less-2
+    (λ c. passes (c .before .before .before .before) .less)
     loop-again-2
     returns)

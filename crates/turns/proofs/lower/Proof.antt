@@ -1,8 +1,9 @@
 -- `turns::lower` meets its contract. The invariant: what is found, and what is left and has a lower label, is all of w that has one.
+use mathlib.Core.Path.{refl}
 use lib.ListN.{getD}
 use Rattle.finite.specs.Truth.{below}
 use Rattle.nodes.specs.Limits.{maxNodes}
-use Rattle.nodes.proofs.Words.{next-less}
+use Rattle.nodes.proofs.Words.{next-less, rest-at}
 use Rattle.turns.proofs.Sift.{Sifting, sift-none, sift-more, sift-all}
 use Rattle.turns.proofs.lower.Statement.{statement}
 use Rattle.turns.proofs.lower.Tie as tie
@@ -19,13 +20,13 @@ loop-holds c = sift-none _ _ (c .before .fits .w .fits)
 loop-less : tie.Need-loop-less Inv-loop μ-loop
 loop-less c =
     let l = c .before .before .before in
-    next-less maxNodes (l .before .before .loop .inv .left-word) (l .before .loop-test .taken) (l .lowest .ensures) (c .without .ensures)
+    next-less maxNodes (l .before .before .loop .inv .left-word) (l .before .loop-test .taken) refl (c .rest .ensures)
 
 loop-again : tie.Need-loop-again Inv-loop μ-loop
 loop-again c =
     let l = c .before .before .before in
     sift-more (l .before .before .loop .inv) (l .before .loop-test .taken) (l .lowest .ensures) (c .before .before .one-lower .ensures) (c .before .union .ensures)
-    (c .without .ensures)
+    (rest-at maxNodes _ (l .lowest .ensures) (c .rest .ensures))
 
 returns : tie.Need-returns Inv-loop μ-loop
 returns c = sift-all (c .before .loop .inv) (c .loop-test .left)

@@ -1,13 +1,13 @@
 -- `machine::arrays::hold` meets its contract: a store past the end changes nothing.
 use mathlib.Core.Path.{sym}
-use native.Mathlib.Omega.{arith}
 use borrow.Author.Needs.{needs}
+use denote.Ref.{now}
 use lib.Seq.{set-out}
 use Rattle.machine.proofs.arrays.hold.Statement.{statement}
 use Rattle.machine.proofs.arrays.hold.Tie as tie
 
 returns-2 : tie.Need-returns-2
-returns-2 c = sym (set-out (c .before .args .holders) _ _ (omega arith))
+returns-2 c = sym (set-out (now (c .before .args .holders)) _ _ (c .if1 .left))
 
 pub hold-spec : {M : Type 1} → statement M
-hold-spec = tie.close (tie.spec (λ c. search needs) (λ c. search needs) (λ c. search needs) returns-2)
+hold-spec = tie.close (tie.spec (λ c. search needs) (λ c. search needs) (λ c. search needs) (λ c. search needs) returns-2)

@@ -1,4 +1,4 @@
--- The loops over arrays: every channel passed is released; every message passed has its byte of the list.
+-- A list filled from the front, one store a turn: the places before i have the values of f, the others are as they were.
 use mathlib.Core.Path.{_≡_, refl, _∙_}
 use mathlib.Core.List.{List}
 use Prim.Native.Nat.{ℕ, _+_, _≤_, _<_}
@@ -6,12 +6,11 @@ use native.Mathlib.Nat.{not-suc-le-zero}
 use native.Mathlib.Omega.{arith}
 use lib.ListN.{length, getD, set, length-set}
 use lib.Seq.{getD-set-same, getD-set-other}
-use Rattle.finite.specs.Truth.{same}
+use Rattle.finite.specs.Truth.{same, below}
 use Rattle.finite.specs.Lists.{tabulate}
-use Rattle.finite.proofs.Truth.{bcase, same-eq, same-ne}
+use Rattle.finite.proofs.Truth.{bcase, same-eq, same-ne, below-lt, below-le}
 use Rattle.finite.proofs.Lists.{tabulate-ext}
 
--- places before i have the values of f, the others are as they were
 pub record Filling (f : ℕ → ℕ) (old new : List ℕ) (i : ℕ) : Type 0 where
   pub size : length new ≡ length old
   pub passed : (j : ℕ) → j < i → getD new j 0 ≡ f j
@@ -29,5 +28,10 @@ filling-more {f} {old} {new} {i} x s l e = record {
   ahead = λ j h. getD-set-other new i j x 0 (λ q. omega arith) ∙ s .ahead j (omega arith);
 }
 
+-- where the rest has the values of f already, all have
+pub filling-rest : {f : ℕ → ℕ} {old new : List ℕ} {i : ℕ} (n : ℕ) → Filling f old new i → length old ≡ n → ((j : ℕ) → i ≤ j → j < n → getD old j 0 ≡ f j) → new ≡ tabulate n f
+filling-rest {f} {old} {new} {i} n s e rest =
+    tabulate-ext n f 0 new (s .size ∙ e) (λ j h. bcase (below j i) (λ t. s .passed j (below-lt _ _ t)) (λ t. let l = below-le _ _ t in s .ahead j l ∙ rest j l h))
+
 pub filling-all : {f : ℕ → ℕ} {old new : List ℕ} {i : ℕ} (n : ℕ) → Filling f old new i → length old ≡ n → n ≤ i → new ≡ tabulate n f
-filling-all {f} {old} {new} n s e l = tabulate-ext n f 0 new (s .size ∙ e) (λ j h. s .passed j (omega arith))
+filling-all n s e l = filling-rest n s e (λ j h k. absurd (omega arith))
