@@ -11,7 +11,7 @@ use std::collections::BTreeMap;
 pub const LONGEST_LIST: usize = 512;
 
 /// One direction of a link: from, to.
-type Channel = (usize, usize);
+pub type Channel = (usize, usize);
 
 #[derive(Clone, Debug, PartialEq, Eq)]
 struct Message {
@@ -98,6 +98,19 @@ impl Record {
     /// The successful moves since the start.
     pub fn moves(&self) -> usize {
         self.moves
+    }
+
+    /// The messages that are delivered, in rising order.
+    pub fn delivered(&self) -> impl Iterator<Item = usize> + '_ {
+        let all = self.messages.iter().enumerate();
+        all.filter(|(_, message)| message.delivered).map(|(i, _)| i)
+    }
+
+    /// The channels that are held, in rising order, each with its message.
+    pub fn held(&self) -> impl Iterator<Item = (Channel, usize)> + '_ {
+        self.holders
+            .iter()
+            .map(|(&channel, &holder)| (channel, holder))
     }
 
     pub fn all_delivered(&self) -> bool {

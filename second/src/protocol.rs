@@ -56,8 +56,9 @@ impl<'a> Arguments<'a> {
         self.fixed().map(u64::from_le_bytes)
     }
 
+    /// A length of 32 bits, and then that many bytes.
     fn bytes(&mut self) -> Option<&'a [u8]> {
-        let length = self.number()?;
+        let length = self.fixed().map(u32::from_le_bytes)? as usize;
         let (taken, rest) = self.rest.split_at_checked(length)?;
         self.rest = rest;
         Some(taken)
@@ -170,25 +171,57 @@ fn build_call(mut arguments: Arguments) -> Option<String> {
     Some(with_buffer(answer, &buffer))
 }
 
-fn steps_call(mut arguments: Arguments) -> Option<String> {
-    let image = arguments.bytes()?;
-    let list = arguments.bytes()?;
+/// A start on the record, and the messages that are to move after it.
+struct Round<'a> {
+    image: &'a [u8],
+    list: &'a [u8],
+    named: Vec<usize>,
+}
+
+fn round<'a>(arguments: &mut Arguments<'a>) -> Option<Round<'a>> {
+    let (image, list) = (arguments.bytes()?, arguments.bytes()?);
     let count = arguments.number()?;
     let named: Option<Vec<usize>> = (0..count).map(|_| arguments.number()).collect();
-    let named = named?;
-    arguments.end()?;
+    Some(Round {
+        image,
+        list,
+        named: named?,
+    })
+}
+
+/// One round or more on one record, which has no messages before the first.
+fn steps_call(mut arguments: Arguments) -> Option<String> {
+    let mut rounds = vec![round(&mut arguments)?];
+    while !arguments.rest.is_empty() {
+        rounds.push(round(&mut arguments)?);
+    }
     let mut record = Record::default();
-    let started = record.start(image, list).map(|()| "started".into());
-    let refused = started.is_err();
-    let mut text = answer_line(started);
-    if refused {
-        return Some(text);
+    let mut text = String::new();
+    for round in rounds {
+        let started = record.start(round.image, round.list);
+        text += &answer_line(started.map(|()| "started".into()));
+        text += &record_lines(&record);
+        for message in round.named {
+            text += &answer_line(record.step(message).map(step_text));
+        }
+        text += &record_lines(&record);
     }
-    for message in named {
-        text += &answer_line(record.step(message).map(step_text));
-    }
-    text += &format!("moves {}\n", record.moves());
     Some(text)
+}
+
+/// How many messages and moves, which messages are delivered, and which
+/// channels are held, by whom.
+fn record_lines(record: &Record) -> String {
+    let delivered = record.delivered().map(|message| format!(" {message}"));
+    let held = record.held();
+    let held = held.map(|((from, to), message)| format!(" {from} {to} {message}"));
+    format!(
+        "record {} {}\ndelivered{}\nheld{}\n",
+        record.messages(),
+        record.moves(),
+        delivered.collect::<String>(),
+        held.collect::<String>()
+    )
 }
 
 fn step_text(answer: Answer) -> String {

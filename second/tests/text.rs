@@ -3,6 +3,7 @@
 use second::cases::cabling::ring;
 use second::cases::pack::*;
 use second::cases::{drawn, fixed, Set, DRAWN};
+use second::image::lay_out;
 use second::programs::run;
 use second::protocol::calls;
 
@@ -55,18 +56,63 @@ fn buffers() {
     assert!(built.starts_with("built 72\nbuffer 1 4 1 0 26 0 10 0 "));
 }
 
+const BLANK: &str = "record 0 0\ndelivered\nheld\n";
+
 #[test]
 fn steps_and_traces() {
     let image = ring(4).links_image();
     let list = list(&[(0, 2), (0, 1), (3, 3)]);
     let steps = steps_call(&image, &list, &[0, 1, 2, 2, 3]);
-    let lines = "started\nmoved\nblocked 0\ndelivered\nalready\nrefused 10 0\nmoves 2\n";
+    let lines = "started\nrecord 3 0\ndelivered\nheld\n\
+        moved\nblocked 0\ndelivered\nalready\nrefused 10 0\n\
+        record 3 2\ndelivered 2\nheld 0 1 0\n";
     assert_eq!(text(&steps), lines);
-    assert_eq!(text(&steps_call(&image, &[1], &[0])), "refused 11 0\n");
-    assert_eq!(text(&steps_call(&image, &[], &[])), "started\nmoves 0\n");
+    let refused = format!("refused 11 0\n{BLANK}refused 10 0\n{BLANK}");
+    assert_eq!(text(&steps_call(&image, &[1], &[0])), refused);
+    let none = format!("started\n{BLANK}{BLANK}");
+    assert_eq!(text(&steps_call(&image, &[], &[])), none);
     let none = trace_call(&drain_input(&image, 9, &[]));
     assert_eq!(text(&none), "drained 0 0\n");
     assert_eq!(text(&trace_call(&[1])), "refused 1 0\n");
+}
+
+#[test]
+fn starts_on_a_used_record() {
+    let image = ring(4).links_image();
+    let two = list(&[(0, 2), (3, 3)]);
+    let first = Round::new(&image, &two, &[0, 1]);
+    let refused = Round::new(&image, &[0, 4], &[0, 0, 0]);
+    let last = Round::new(&image, &list(&[(0, 1)]), &[0]);
+    let lines = "started\nrecord 2 0\ndelivered\nheld\n\
+        moved\ndelivered\nrecord 2 2\ndelivered 1\nheld 0 1 0\n\
+        refused 10 0\nrecord 2 2\ndelivered 1\nheld 0 1 0\n\
+        moved\ndelivered\nalready\nrecord 2 4\ndelivered 0 1\nheld\n\
+        started\nrecord 1 0\ndelivered\nheld\n\
+        moved\nrecord 1 1\ndelivered\nheld 0 1 0\n";
+    let mut input = rounds_call(&[first, refused, last]);
+    assert_eq!(text(&input), lines);
+    input.pop();
+    assert_eq!(text(&input), "bad call\n");
+    assert_eq!(text(&rounds_call(&[])), "bad call\n");
+}
+
+#[test]
+fn images_over_65_535_bytes() {
+    let body = ring(4).links_body();
+    for (total, refused) in [(65_535, 3), (65_536, 1), (65_537, 1)] {
+        let mut long = body.clone();
+        long.resize(total - 8, 0);
+        let image = lay_out(&[(1, &long)]);
+        assert_eq!(image.len(), total);
+        let line = format!("refused {refused} 0\nbuffer 13\n");
+        assert_eq!(text(&read_call(&image, 1)), line);
+        assert_eq!(text(&build_call(&image, 1)), line);
+        assert_eq!(text(&route_call(&image, 0, 1, 1)), line);
+        let line = format!("refused {refused} 0\n{BLANK}{BLANK}");
+        assert_eq!(text(&steps_call(&image, &[], &[])), line);
+        let entry = format!("entry 1 0 8 {}\n", total - 8);
+        assert_eq!(text(&entry_call(&image, 0)), entry);
+    }
 }
 
 #[test]

@@ -4,7 +4,7 @@
 fn main() {
     let mut input = io::large_buffer();
     let n = io::read_full(0, &mut input);
-    let mut out = [0u8; programs::build::LONGEST];
-    let written = programs::build::output(&input[..n], &mut out);
-    programs::say(written, &out);
+    let mut out = [0u8; built::LONGEST];
+    let written = built::output(&input[..n], &mut out);
+    lines::say(written, &out);
 }

@@ -1,6 +1,6 @@
 // What is printed: words, and fields one space apart, each line closed by a line feed.
 use format::Entry;
-use machine::Answer;
+use messages::Answer;
 use refusal::Refusal;
 use written::Written;
 

@@ -2,24 +2,29 @@
 // from the length of what is left behind the last of variable length.
 ghost use Prim.Native.Nat.{_≤_};
 
+// The first bytes, nothing where there are fewer.
+pub fn front(s: &[u8], size: usize) -> &[u8] {
+    if size <= s.len() {
+        &s[0..size]
+    } else {
+        &s[..0]
+    }
+}
+
 // What stands behind the first bytes, nothing where there are fewer.
 pub fn behind(s: &[u8], size: usize) -> &[u8] {
     if size <= s.len() { &s[size..] } else { &s[..0] }
 }
 
-// The bytes of an argument that says its length first, nothing where there are fewer.
+// The bytes of an argument that says its length first, nothing where there are fewer. A length has 32 bits, since 01 speaks of images over 65,535 bytes;
+// what is read holds 131,072.
 pub fn bytes(args: &[u8]) -> &[u8] {
-    let end = 2 + format::number_at(args, 0);
-    if end <= args.len() {
-        &args[2..end]
-    } else {
-        &args[..0]
-    }
+    front(behind(args, 4), double(args, 0))
 }
 
 // What stands behind such an argument.
 pub fn after_bytes(args: &[u8]) -> &[u8] {
-    behind(args, 2 + format::number_at(args, 0))
+    behind(behind(args, 4), double(args, 0))
 }
 
 // A number of 32 bits, low byte first.

@@ -1,15 +1,71 @@
-// Calls of the drain machine: steps, the moves of named messages; and trace, a drain with a line for each move.
+// Calls of the drain machine: steps, starts on one record with moves of named messages behind each; and trace, a drain with a line for each move.
+ghost use Prim.Native.Nat.{_≤_};
 use crate::answers;
 use crate::arguments;
-use machine::Record;
+use messages::Record;
+use nodes::MAX_NODES;
 use refusal::Refusal;
 use refusal::Verdict;
 
 // More moves than 256 messages can make, of at most 63 hops and a delivery each.
 const MOST_MOVES: usize = 16640;
 
-// A line for the move of each named message, and the count.
-fn stepped(record: Record, named: &[u8]) {
+// The messages that are marked, and the line's end.
+fn marked(bytes: &[u8]) {
+    for m in 0..bytes.len() {
+        mark(m, bytes[m]);
+    }
+    answers::word(b"\n");
+}
+
+fn mark(message: usize, byte: u8) {
+    if byte != 0 {
+        answers::field(message);
+    }
+}
+
+// Each channel that is held, by its two nodes, with the message that holds it, and the line's end.
+fn held(holders: &[u16]) {
+    for c in 0..holders.len() {
+        hold(c, holders[c]);
+    }
+    answers::word(b"\n");
+}
+
+fn hold(channel: usize, holder: u16) {
+    if holder != 0 {
+        answers::field(channel / MAX_NODES);
+        answers::field(channel % MAX_NODES);
+        answers::field((holder - 1) as usize);
+    }
+}
+
+// The record: how many messages, how many moves, who is delivered, what is held.
+fn state(record: Record) {
+    answers::two(b"record", record.messages, record.moves);
+    let delivered = record.delivered;
+    answers::word(b"delivered");
+    marked(&delivered);
+    let holders = record.holders;
+    answers::word(b"held");
+    held(&holders);
+}
+
+// A start on the record; its line, and the record after it.
+fn begun(record: Record, image: &[u8], list: &[u8]) -> Record {
+    let started = moves::started(record, image, list);
+    let verdict = started.verdict;
+    let after = started.record;
+    match verdict {
+        Verdict::Fault(r) => answers::refused(r),
+        Verdict::Fine => answers::word(b"started\n"),
+    }
+    state(after);
+    after
+}
+
+// A line for the move of each named message, and the record after them.
+fn stepped(record: Record, named: &[u8]) -> Record {
     let mut last = record;
     for i in 0..named.len() / 2 {
         let moved = moves::moved(last, format::number_at(named, 2 * i));
@@ -18,30 +74,60 @@ fn stepped(record: Record, named: &[u8]) {
         let answer = moved.answer;
         answers::step(answer);
     }
-    answers::one(b"moves", last.moves);
+    state(last);
+    last
 }
 
+// The bytes of a round: a start's image and list, how many messages are named, and their numbers.
+fn size(args: &[u8]) -> usize
+    ensures least { λ r. ⌜ 10 ≤ r ⌝ }
+    ensures most { λ r. ⌜ r ≤ 8590065670 ⌝ }
+{
+    let list = arguments::after_bytes(args);
+    let tries = arguments::after_bytes(list);
+    10 + arguments::double(args, 0) + arguments::double(list, 0) + 2 * format::number_at(tries, 0)
+}
+
+// A round on a record, new or used: a start, then the moves.
+fn round(record: Record, args: &[u8]) -> Record {
+    let list = arguments::after_bytes(args);
+    let tries = arguments::after_bytes(list);
+    let named = arguments::front(arguments::behind(tries, 2), 2 * format::number_at(tries, 0));
+    let begun = begun(record, arguments::bytes(args), arguments::bytes(list));
+    stepped(begun, named)
+}
+
+// Are these whole rounds, to the end?
+fn whole(args: &[u8]) -> bool {
+    let mut at: usize = 0;
+    while at < args.len() {
+        let size = size(&args[at..]);
+        if args.len() - at < size {
+            return false;
+        }
+        at += size;
+    }
+    true
+}
+
+// The rounds one after the other, all on one record.
+fn rounds(args: &[u8]) {
+    let mut last = machine::blank();
+    let mut at: usize = 0;
+    while at < args.len() {
+        let here = &args[at..];
+        let after = round(last, here);
+        last = after;
+        at += size(here);
+    }
+}
+
+// One round or more: what follows the first shows a start on a used record.
 pub fn steps(args: &[u8]) -> bool {
-    let second = arguments::after_bytes(args);
-    let rest = arguments::after_bytes(second);
-    let named = arguments::behind(rest, 2);
-    if rest.len() != 2 + 2 * format::number_at(rest, 0) {
+    if args.len() == 0 || !whole(args) {
         return false;
     }
-    let started = moves::started(
-        machine::blank(),
-        arguments::bytes(args),
-        arguments::bytes(second),
-    );
-    let verdict = started.verdict;
-    let record = started.record;
-    match verdict {
-        Verdict::Fault(r) => answers::refused(r),
-        Verdict::Fine => {
-            answers::word(b"started\n");
-            stepped(record, named);
-        }
-    }
+    rounds(args);
     true
 }
 
@@ -62,15 +148,17 @@ fn turned(record: Record, seed: u32) {
     answers::two(b"drained", last.messages, last.moves);
 }
 
-// A drain's input: an image's bytes, the seed, pairs.
+// A drain's input, as the program reads it: an image's length in 16 bits, the image, the seed, pairs.
 fn drain(input: &[u8]) {
-    let rest = arguments::after_bytes(input);
+    let size = format::number_at(input, 0);
+    let behind = arguments::behind(input, 2);
+    let rest = arguments::behind(behind, size);
     if rest.len() < 4 {
         answers::refused(Refusal::Contents);
         return;
     }
     let list = arguments::behind(rest, 4);
-    let started = moves::started(machine::blank(), arguments::bytes(input), list);
+    let started = moves::started(machine::blank(), arguments::front(behind, size), list);
     let verdict = started.verdict;
     let record = started.record;
     match verdict {
@@ -80,7 +168,7 @@ fn drain(input: &[u8]) {
 }
 
 pub fn trace(args: &[u8]) -> bool {
-    if args.len() != 2 + format::number_at(args, 0) {
+    if args.len() != 4 + arguments::double(args, 0) {
         return false;
     }
     drain(arguments::bytes(args));

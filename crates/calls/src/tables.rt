@@ -1,8 +1,8 @@
 // Calls that read lent bytes: an entry of the contents, a walk over them, a row of the two tables, one byte of a row.
 use crate::answers;
 use crate::arguments;
+use hops::HopAnswer;
 use refusal::Refusal;
-use rows::HopAnswer;
 
 pub fn entry(args: &[u8]) -> bool {
     let rest = arguments::after_bytes(args);
@@ -48,7 +48,7 @@ pub fn row(args: &[u8]) -> bool {
     if rest.len() != 6 {
         return false;
     }
-    row_line(rows::row(
+    row_line(hops::row(
         arguments::bytes(args),
         arguments::bytes(second),
         format::number_at(rest, 0),
@@ -71,7 +71,7 @@ pub fn hop(args: &[u8]) -> bool {
     if rest.len() != 8 {
         return false;
     }
-    hop_line(rows::hop(
+    hop_line(hops::hop(
         arguments::bytes(args),
         arguments::bytes(second),
         format::number_at(rest, 0),

@@ -5,7 +5,7 @@
 fn main() {
     let mut input = io::large_buffer();
     let n = io::read_full(0, &mut input);
-    let mut out = [0u8; programs::drain::LONGEST];
-    let written = programs::drain::output(&input[..n], &mut out);
-    programs::say(written, &out);
+    let mut out = [0u8; drained::LONGEST];
+    let written = drained::output(&input[..n], &mut out);
+    lines::say(written, &out);
 }

@@ -7,13 +7,14 @@ use Rattle.refusal.specs.declared.Refusal.{Refusal}
 use Rattle.refusal.specs.declared.Verdict.{Verdict}
 use Rattle.refusal.specs.declared.Verdict.the-variants.{Fine, Fault}
 use Rattle.order.specs.Seed.{nextSeed, lookAt}
-use Rattle.machine.specs.Sizes.{maxPairs}
-use Rattle.machine.specs.declared.Record.{Record}
-use Rattle.machine.specs.declared.Answer.{Answer}
-use Rattle.machine.specs.declared.Stepped.{Stepped}
-use Rattle.machine.specs.Step.{with}
-use Rattle.machine.specs.InPlace.{packed, stepIn, FreeFrom}
-use Rattle.machine.specs.Ready.{messagesOf}
+use Rattle.messages.specs.Sizes.{maxPairs}
+use Rattle.messages.specs.declared.Record.{Record}
+use Rattle.messages.specs.declared.Answer.{Answer}
+use Rattle.messages.specs.declared.Stepped.{Stepped}
+use Rattle.messages.specs.Step.{with}
+use Rattle.messages.specs.Tells.{FreeFrom}
+use Rattle.messages.specs.Ready.{messagesOf}
+use Rattle.machine.specs.InPlace.{packed, stepIn}
 use Rattle.machine.proofs.InPlace.{step-in}
 use Rattle.start.specs.declared.Started.{Started}
 use Rattle.start.specs.Start.{startFault, freshOf, recordAfter, startOf}

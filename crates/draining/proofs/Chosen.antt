@@ -9,11 +9,11 @@ use Rattle.finite.specs.Truth.{below}
 use Rattle.finite.specs.Search.{Some, least}
 use Rattle.finite.proofs.Truth.{bcase, below-lt, below-le, lt-below, le-below}
 use Rattle.finite.proofs.Search.{least-unique, least-fact, least-before, least-found}
-use Rattle.machine.specs.declared.Record.{Record}
-use Rattle.machine.specs.Step.{isFalling, isDelivered, tableOf, nextNode}
-use Rattle.machine.specs.InPlace.{packed}
-use Rattle.machine.specs.Ready.{messagesOf, ready, told}
-use Rattle.machine.proofs.Ready.{ready-told}
+use Rattle.messages.specs.declared.Record.{Record}
+use Rattle.messages.specs.Step.{isFalling, isDelivered, tableOf, nextNode}
+use Rattle.messages.specs.Ready.{messagesOf, ready}
+use Rattle.machine.specs.InPlace.{packed, told}
+use Rattle.machine.proofs.Told.{ready-told}
 use Rattle.draining.specs.Order.{around, chosen}
 
 -- every message is met on the way round

@@ -10,13 +10,13 @@ use native.Mathlib.Omega.{arith}
 use Rattle.refusal.specs.declared.Verdict.the-variants.{Fine}
 use Rattle.format.specs.Contents.{nodesIn}
 use Rattle.image.specs.Image.{cablingIn}
-use Rattle.machine.specs.declared.Record.{Record}
-use Rattle.machine.specs.Step.{isDelivered, holder, stepOf}
-use Rattle.machine.specs.Runs.{Listed, messagesIn, successful}
-use Rattle.machine.specs.Ready.{allDelivered}
-use Rattle.machine.proofs.Drain.{all-delivered, every-link-free}
-use Rattle.machine.proofs.Reached.{reached-state}
-use Rattle.machine.proofs.Ready.{delivered-every, messages-listed}
+use Rattle.messages.specs.declared.Record.{Record}
+use Rattle.messages.specs.Step.{isDelivered, holder, stepOf}
+use Rattle.messages.specs.Runs.{Listed, messagesIn, successful}
+use Rattle.messages.specs.Ready.{allDelivered}
+use Rattle.messages.proofs.Drain.{all-delivered, every-link-free}
+use Rattle.messages.proofs.Reached.{reached-state}
+use Rattle.messages.proofs.Ready.{delivered-every, messages-listed}
 use Rattle.start.specs.Start.{startFault, freshOf}
 use Rattle.start.proofs.Fabrics.{TabledFor, RunFor, fresh-reached, start-fabric, start-listed}
 use Rattle.draining.specs.Order.{turnOf}

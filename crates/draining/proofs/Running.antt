@@ -13,14 +13,14 @@ use Rattle.fabric.specs.Fabric.{fabricOf}
 use Rattle.format.specs.Contents.{nodesIn}
 use Rattle.image.specs.Image.{cablingIn}
 use Rattle.nodes.specs.Limits.{maxNodes}
-use Rattle.machine.specs.Sizes.{maxMessages}
-use Rattle.machine.specs.declared.Record.{Record}
-use Rattle.machine.specs.InPlace.{FreeFrom}
-use Rattle.machine.specs.Fresh.{sourceIn, targetIn, begunOf}
-use Rattle.machine.specs.Runs.{Listed, messagesIn, routeIn, allMoves}
-use Rattle.machine.specs.Ready.{allDelivered}
-use Rattle.machine.proofs.Reached.{reached-state}
-use Rattle.machine.proofs.Drain.{free-from}
+use Rattle.messages.specs.Sizes.{maxMessages}
+use Rattle.messages.specs.declared.Record.{Record}
+use Rattle.messages.specs.Fresh.{sourceIn, targetIn, begunOf}
+use Rattle.messages.specs.Runs.{Listed, messagesIn, routeIn, allMoves}
+use Rattle.messages.specs.Tells.{FreeFrom}
+use Rattle.messages.specs.Ready.{allDelivered}
+use Rattle.messages.proofs.Reached.{reached-state}
+use Rattle.messages.proofs.Drain.{free-from}
 use Rattle.start.specs.Start.{startFault, freshOf}
 use Rattle.start.proofs.Fabrics.{TabledFor, RunFor, label-read, fresh-reached, start-fabric, start-listed}
 use Rattle.draining.specs.declared.Turned.{Turned}

@@ -7,12 +7,12 @@ use native.Mathlib.Omega.{arith}
 use Rattle.finite.proofs.Truth.{bcase}
 use Rattle.order.specs.Seed.{nextSeed, lookAt}
 use Rattle.order.proofs.Places.{look-low}
-use Rattle.machine.specs.declared.Record.{Record}
-use Rattle.machine.specs.Step.{stepOf}
-use Rattle.machine.specs.Runs.{Tabled, Listed, allMoves, Reached, move, successful}
-use Rattle.machine.specs.Ready.{messagesOf, allDelivered}
-use Rattle.machine.proofs.Drain.{never-more, all-delivered, one-less}
-use Rattle.machine.proofs.Ready.{ready-moves, every-delivered, messages-listed, one-ready}
+use Rattle.messages.specs.declared.Record.{Record}
+use Rattle.messages.specs.Step.{stepOf}
+use Rattle.messages.specs.Runs.{Tabled, Listed, allMoves, Reached, move, successful}
+use Rattle.messages.specs.Ready.{messagesOf, allDelivered}
+use Rattle.messages.proofs.Drain.{never-more, all-delivered, one-less}
+use Rattle.messages.proofs.Ready.{ready-moves, every-delivered, messages-listed, one-ready}
 use Rattle.draining.specs.Order.{turnOf}
 use Rattle.draining.specs.Drained.{after}
 use Rattle.draining.proofs.Chosen.{chosen-ready}

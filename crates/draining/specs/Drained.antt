@@ -6,9 +6,9 @@ use Rattle.cabling.specs.Cabling.{links}
 use Rattle.fabric.specs.Fabric.{labelsFor}
 use Rattle.format.specs.Contents.{nodesIn}
 use Rattle.image.specs.Image.{cablingIn}
-use Rattle.machine.specs.declared.Record.{Record}
-use Rattle.machine.specs.Runs.{allMoves}
-use Rattle.machine.specs.Ready.{allDelivered}
+use Rattle.messages.specs.declared.Record.{Record}
+use Rattle.messages.specs.Runs.{allMoves}
+use Rattle.messages.specs.Ready.{allDelivered}
 use Rattle.start.specs.Start.{startFault, freshOf, recordAfter}
 use Rattle.draining.specs.declared.Drained.{Drained}
 use Rattle.draining.specs.Order.{turnOf}

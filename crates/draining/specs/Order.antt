@@ -4,9 +4,9 @@ use Prim.Native.Nat.{ℕ, _+_, _%_}
 use Rattle.finite.specs.Truth.{below}
 use Rattle.finite.specs.Search.{least}
 use Rattle.order.specs.Seed.{nextSeed, lookAt}
-use Rattle.machine.specs.declared.Record.{Record}
-use Rattle.machine.specs.Step.{stepOf}
-use Rattle.machine.specs.Ready.{messagesOf, ready}
+use Rattle.messages.specs.declared.Record.{Record}
+use Rattle.messages.specs.Step.{stepOf}
+use Rattle.messages.specs.Ready.{messagesOf, ready}
 use Rattle.draining.specs.declared.Turned.{Turned}
 
 -- of n messages the one that stands k behind `look`, "going round"

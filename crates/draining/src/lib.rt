@@ -2,14 +2,15 @@
 ghost use mathlib.Core.Path.{_≡_};
 ghost use mathlib.Core.List.{[]};
 ghost use Prim.Native.Nat.{_≤_};
-ghost use Rattle.machine.specs.Sizes.{maxMessages};
-ghost use Rattle.machine.specs.InPlace.{packed, FreeFrom};
+ghost use Rattle.messages.specs.Sizes.{maxMessages};
+ghost use Rattle.messages.specs.Tells.{FreeFrom};
+ghost use Rattle.machine.specs.InPlace.{packed};
 ghost use Rattle.draining.specs.Order.{chosen, turnOf};
 ghost use Rattle.draining.specs.InPlace.{turned};
 ghost use Rattle.draining.specs.Drained.{drainOf};
-use machine::MAX_MESSAGES;
-use machine::MAX_PAIRS;
-use machine::Record;
+use messages::MAX_MESSAGES;
+use messages::MAX_PAIRS;
+use messages::Record;
 use nodes::MAX_NODES;
 use refusal::Verdict;
 

@@ -66,7 +66,7 @@ fn tell(name: &[u8], image: &[u8]) {
         Verdict::Fault(r) => {
             let mut out = [0u8; lines::LONGEST_REFUSAL];
             let written = lines::refusal_line(r, &mut out);
-            programs::say(written, &out);
+            lines::say(written, &out);
         }
         Verdict::Fine => {
             io::write_all(1, b"accepted\n");

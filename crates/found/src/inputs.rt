@@ -23,7 +23,7 @@ fn for_drain(image: &[u8], messages: &[u8], buffer: &mut [u8]) -> usize {
 pub fn tell_drained(image: &[u8], messages: &[u8]) {
     let mut input = [0u8; ROOM];
     let end = for_drain(image, messages, &mut input);
-    let mut out = [0u8; programs::drain::LONGEST];
-    let written = programs::drain::output(front(&input, end), &mut out);
-    programs::say(written, &out);
+    let mut out = [0u8; drained::LONGEST];
+    let written = drained::output(front(&input, end), &mut out);
+    lines::say(written, &out);
 }

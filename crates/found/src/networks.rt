@@ -113,9 +113,9 @@ fn laid(table: &[u8], e: Entry, full: bool, buffer: &mut [u8]) -> usize {
 }
 
 fn tell_links(table: &[u8], e: Entry, image: &[u8]) {
-    let mut out = [0u8; programs::show::LONGEST];
-    let written = programs::show::output(image, &mut out);
-    programs::say(written, &out);
+    let mut out = [0u8; shown::LONGEST];
+    let written = shown::output(image, &mut out);
+    lines::say(written, &out);
     tell_image(image, list(table, e.links));
     tell_messages(image, list(table, e.messages));
 }

@@ -82,9 +82,14 @@ module _ (c : Cabling) (g : Good c) where
       let few = g .few in
       then-fine _ (front-fine _ (omega arith, omega arith) (read-zero full)) ∙ ap faultOf (read-cabling full) ∙ fault-fine c .1 g
 
+  -- the bodies of a full one
+  pub full-bodies : bodiesFrom (imageOf fullKinds c) 0 fullKinds ≡ bodiesOf c
+  unfolding imageOf bodiesOf
+  full-bodies = from-bodies (c .nodes ∷ 0 ∷ c .pairs) (tablesOf c) (small true)
+
   tables-back : bodiesFrom (imageOf fullKinds c) 1 3 ≡ tablesOf c
-  unfolding imageOf bodiesOf bodiesFrom
-  tables-back = ap (drop 1) (from-bodies (c .nodes ∷ 0 ∷ c .pairs) (tablesOf c) (small true))
+  unfolding bodiesOf bodiesFrom
+  tables-back = ap (drop 1) full-bodies
 
   tables-accepted : tablesFault (imageOf fullKinds c) ≡ Fine
   unfolding bodiesOf

@@ -1,4 +1,4 @@
-// Lines that programs print: a word or a number, further numbers one space apart, a line feed.
+// Lines that programs print: a word or a number, further numbers one space apart, a line feed; and how a program writes what it has laid.
 ghost use mathlib.Core.Path.{_≡_};
 ghost use Rattle.laid.specs.Laid.{page};
 ghost use Rattle.written.specs.Written.{Writes, roomFor};
@@ -59,4 +59,13 @@ pub fn refusal_line(r: Refusal, buffer: &mut [u8]) -> Written
     let place = refusal::place(r);
     let numbers = [number, place];
     Written::Bytes(line(buffer, 0, b"refused", &numbers))
+}
+
+// Writes to standard output what stands at the front of `out`; nothing where nothing was written.
+pub fn say(written: Written, out: &[u8]) {
+    if let Written::Bytes(m) = written {
+        if m <= out.len() {
+            io::write_all(1, &out[..m]);
+        }
+    }
 }

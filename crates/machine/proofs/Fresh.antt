@@ -6,8 +6,8 @@ use native.Mathlib.Nat.{add-zero}
 use lib.ListN.{length, getD}
 use Rattle.finite.specs.Lists.{tabulate}
 use Rattle.finite.proofs.Lists.{tabulate-cong}
-use Rattle.machine.specs.Sizes.{maxMessages, maxPairs}
-use Rattle.machine.specs.Fresh.{sourceIn, zeros, begunOf}
+use Rattle.messages.specs.Sizes.{maxMessages, maxPairs}
+use Rattle.messages.specs.Fresh.{sourceIn, zeros, begunOf}
 
 pub begun-parts : (n : ℕ) (labels free falling list : List ℕ) {messages : ℕ} {targets heads classes delivered holders : List ℕ}
     → messages ≡ min (length list / 2) maxMessages → targets ≡ tabulate maxMessages (λ m. getD list (2 * m + 1) 0)

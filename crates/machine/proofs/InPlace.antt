@@ -10,14 +10,16 @@ use Rattle.finite.specs.Truth.{non, same, below}
 use Rattle.finite.specs.Lists.{tabulate}
 use Rattle.finite.proofs.Truth.{no-tf, bcase, refute, both, and-l, and-r, non-true, true-non, same-eq, eq-same, below-lt, below-le, lt-below, le-below}
 use Rattle.finite.proofs.Lists.{tabulate-cong}
-use Rattle.machine.specs.Sizes.{maxPairs}
-use Rattle.machine.specs.declared.Record.{Record}
-use Rattle.machine.specs.declared.Answer.the-variants.{Already, Moved, Blocked, Delivered}
-use Rattle.machine.specs.Step.{head, target, isFalling, isDelivered, nextNode, channel, nextChannel, holder, classIn, counted, released, moved, arrived, with, refusedOf, stepOf}
-use Rattle.machine.specs.InPlace.{packed, leftIn, givenBack, arriving, arrivedIn, stepIn, FreeFrom}
-use Rattle.machine.specs.Ready.{messagesOf, told}
-use Rattle.machine.proofs.Moves.{there, next-told, step-none, step-already, step-delivered, step-blocked, step-moved}
-use Rattle.machine.proofs.Changes.{released-other}
+use Rattle.messages.specs.Sizes.{maxPairs}
+use Rattle.messages.specs.declared.Record.{Record}
+use Rattle.messages.specs.declared.Answer.the-variants.{Already, Moved, Blocked, Delivered}
+use Rattle.messages.specs.Step.{head, target, isFalling, isDelivered, nextNode, channel, nextChannel, holder, classIn, counted, released, moved, arrived, with, refusedOf, stepOf}
+use Rattle.messages.specs.Tells.{FreeFrom}
+use Rattle.messages.specs.Ready.{messagesOf}
+use Rattle.messages.proofs.Moves.{there, step-none, step-already, step-delivered, step-blocked, step-moved}
+use Rattle.messages.proofs.Changes.{released-other}
+use Rattle.machine.specs.InPlace.{packed, told, leftIn, givenBack, arriving, arrivedIn, stepIn}
+use Rattle.machine.proofs.Told.{next-told}
 
 module _ (span holder : ℕ) (holders : List ℕ) (c : ℕ) where
   pub left-below : c < span → leftIn span holder holders c ≡ released holder (getD holders c 0)

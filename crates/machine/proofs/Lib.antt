@@ -1,15 +1,4 @@
-pub mod Moves
 pub mod Fresh
-pub mod Channels
-pub mod Way
-pub mod Changes
+pub mod Told
 pub mod InPlace
-pub mod State
-pub mod Hops
-pub mod Total
-pub mod After
-pub mod Reached
-pub mod Drain
-pub mod Answers
-pub mod Ready
 pub mod Tight

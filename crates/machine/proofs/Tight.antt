@@ -6,14 +6,14 @@ use Prim.Native.Nat.{ℕ, min}
 use lib.ListN.{getD}
 use Rattle.finite.specs.Truth.{non, same}
 use Rattle.finite.specs.Search.{all}
-use Rattle.machine.specs.Sizes.{maxMessages}
-use Rattle.machine.specs.declared.Record.{Record}
-use Rattle.machine.specs.declared.Answer.{Answer}
-use Rattle.machine.specs.declared.Stepped.{Stepped}
-use Rattle.machine.specs.Step.{with, stepOf}
+use Rattle.messages.specs.Sizes.{maxMessages}
+use Rattle.messages.specs.declared.Record.{Record}
+use Rattle.messages.specs.declared.Answer.{Answer}
+use Rattle.messages.specs.declared.Stepped.{Stepped}
+use Rattle.messages.specs.Step.{with, stepOf}
 use Rattle.machine.specs.InPlace.{stepIn}
-use Rattle.machine.specs.Fresh.{begunOf, blankRecord}
-use Rattle.machine.specs.Ready.{ready, allDelivered}
+use Rattle.messages.specs.Fresh.{begunOf, blankRecord}
+use Rattle.messages.specs.Ready.{ready, allDelivered}
 
 pub step-tight : (r : Record) (m : ℕ) (x y : Stepped) → x ≡ stepOf r m → y ≡ stepOf r m → (x .answer ≡ y .answer) × (x .«record» ≡ y .«record»)
 step-tight r m x y p q = let e = p ∙ sym q in (ap (λ (z : Stepped). z .answer) e, ap (λ (z : Stepped). z .«record») e)

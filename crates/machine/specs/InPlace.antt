@@ -1,16 +1,15 @@
 -- A move in arrays that stay in their place: that of the record which they make, but a message that arrives gives back only channels below a bound.
-use mathlib.Core.Path.{_≡_}
 use mathlib.Core.Bool.{Bool, true, false}
-use mathlib.Core.List.{List}
-use Prim.Native.Nat.{ℕ, suc, _≤_}
+use mathlib.Core.List.{List, []}
+use Prim.Native.Nat.{ℕ, suc}
 use lib.ListN.{length, getD, set}
 use Rattle.finite.specs.Truth.{_&_, non, same, below}
 use Rattle.finite.specs.Lists.{tabulate}
-use Rattle.machine.specs.Sizes.{maxMessages}
-use Rattle.machine.specs.declared.Record.{Record}
-use Rattle.machine.specs.declared.Answer.the-variants.{Delivered}
-use Rattle.machine.specs.declared.Stepped.{Stepped}
-use Rattle.machine.specs.Step.{head, target, isDelivered, counted, released, with, stepOf}
+use Rattle.messages.specs.Sizes.{maxMessages}
+use Rattle.messages.specs.declared.Record.{Record}
+use Rattle.messages.specs.declared.Answer.the-variants.{Delivered}
+use Rattle.messages.specs.declared.Stepped.{Stepped}
+use Rattle.messages.specs.Step.{head, target, isDelivered, counted, released, with, stepOf}
 
 -- a record from its parts
 abbrev pub packed : ℕ → ℕ → ℕ → List ℕ → List ℕ → List ℕ → List ℕ → List ℕ → List ℕ → List ℕ → List ℕ → Record
@@ -27,6 +26,10 @@ packed nodes messages moves labels free falling targets heads classes delivered 
   delivered = delivered;
   holders = holders;
 }
+
+-- a record of which only that is told what makes a message ready
+abbrev pub told : ℕ → List ℕ → List ℕ → List ℕ → List ℕ → List ℕ → List ℕ → List ℕ → Record
+told nodes free falling targets heads classes delivered holders = packed nodes 0 0 [] free falling targets heads classes delivered holders
 
 -- channel c's holder, and all holders, once `holder` has given back what it holds of the channels below `span`
 unfoldable pub leftIn : ℕ → ℕ → List ℕ → ℕ → ℕ
@@ -48,7 +51,3 @@ arrivedIn span r m =
 -- one move of message m in place; one that does not arrive is a move of the record
 unfoldable pub stepIn : ℕ → Record → ℕ → Stepped
 stepIn span r m = elim (arriving r m) [ true ↦ with (arrivedIn span r m) Delivered | false ↦ stepOf r m ]
-
--- every channel from `span` on is free
-pub record FreeFrom (span : ℕ) (holders : List ℕ) : Type 0 where
-  pub none : (c : ℕ) → span ≤ c → getD holders c 0 ≡ 0

@@ -1,7 +1,1 @@
-pub mod Sizes
-pub mod Step
 pub mod InPlace
-pub mod Fresh
-pub mod Runs
-pub mod Tells
-pub mod Ready

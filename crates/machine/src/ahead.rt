@@ -5,8 +5,8 @@ ghost use Prim.Native.Nat.{_+_, _*_, min};
 ghost use lib.ListN.{getD};
 ghost use Rattle.finite.specs.Truth.{non, same};
 ghost use Rattle.nodes.specs.Limits.{maxNodes};
-ghost use Rattle.machine.specs.Step.{nextNode, channel, classIn};
-ghost use Rattle.machine.specs.Ready.{told};
+ghost use Rattle.messages.specs.Step.{nextNode, channel, classIn};
+ghost use Rattle.machine.specs.InPlace.{told};
 use crate::arrays;
 use nodes::MAX_NODES;
 

@@ -2,12 +2,12 @@
 ghost use mathlib.Core.Path.{_≡_};
 ghost use Prim.Native.Nat.{min};
 ghost use lib.ListN.{getD, set};
-ghost use Rattle.machine.specs.Sizes.{maxMessages, maxPairs};
-ghost use Rattle.machine.specs.Step.{released};
+ghost use Rattle.messages.specs.Sizes.{maxMessages, maxPairs};
+ghost use Rattle.messages.specs.Step.{released};
+ghost use Rattle.messages.specs.Fresh.{zeros};
 ghost use Rattle.machine.specs.InPlace.{givenBack};
-ghost use Rattle.machine.specs.Fresh.{zeros};
-use crate::MAX_MESSAGES;
-use crate::MAX_PAIRS;
+use messages::MAX_MESSAGES;
+use messages::MAX_PAIRS;
 
 // The byte at place i, 0 past the end.
 pub fn byte(s: &[u8], i: usize) -> u8

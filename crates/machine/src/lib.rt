@@ -5,59 +5,22 @@ ghost use lib.ListN.{getD};
 ghost use Rattle.finite.specs.Truth.{non, same};
 ghost use Rattle.finite.specs.Lists.{tabulate};
 ghost use Rattle.finite.specs.Search.{all};
-ghost use Rattle.machine.specs.Sizes.{maxMessages};
-ghost use Rattle.machine.specs.Step.{counted, with, stepOf};
-ghost use Rattle.machine.specs.InPlace.{packed, stepIn};
-ghost use Rattle.machine.specs.Fresh.{begunOf, blankRecord};
-ghost use Rattle.machine.specs.Ready.{told, ready, allDelivered};
+ghost use Rattle.messages.specs.Sizes.{maxMessages};
+ghost use Rattle.messages.specs.Step.{counted, with, stepOf};
+ghost use Rattle.messages.specs.Fresh.{begunOf, blankRecord};
+ghost use Rattle.messages.specs.Ready.{ready, allDelivered};
+ghost use Rattle.machine.specs.InPlace.{packed, told, stepIn};
 
 mod ahead; // ahead.rt: what is ahead of a message
 mod arrays; // arrays.rt: reads and stores in the record's arrays
 
+use messages::Answer;
+use messages::MAX_MESSAGES;
+use messages::MAX_PAIRS;
+use messages::Record;
+use messages::Stepped;
 use nodes::MAX_NODES;
 use refusal::Refusal;
-
-// 01: "0 to 256" messages.
-pub const MAX_MESSAGES: usize = 256;
-
-// A channel and an entry of a table belong to a pair of nodes.
-pub const MAX_PAIRS: usize = MAX_NODES * MAX_NODES;
-
-// What the machine knows: the network's labels and rows, and of each message its destination, the node where its head is, its class (0 free, 1 falling)
-// and whether it is delivered (1). Channel a → b has the number 64 a + b; its holder is 0 where it is free, else the message's number plus 1.
-pub struct Record {
-    pub nodes: usize,
-    pub messages: usize,
-    pub moves: usize,
-    pub labels: [u8; MAX_NODES],
-    pub free: [u8; MAX_PAIRS],
-    pub falling: [u8; MAX_PAIRS],
-    pub targets: [u8; MAX_MESSAGES],
-    pub heads: [u8; MAX_MESSAGES],
-    pub classes: [u8; MAX_MESSAGES],
-    pub delivered: [u8; MAX_MESSAGES],
-    pub holders: [u16; MAX_PAIRS],
-}
-
-// The answer to one move.
-pub enum Answer {
-    // It is delivered already.
-    Already,
-    // It took its next channel.
-    Moved,
-    // That message holds its next channel.
-    Blocked(usize),
-    // It is delivered now, and gave back all its channels.
-    Delivered,
-    // There is no such message.
-    Refused(Refusal),
-}
-
-// A move's answer beside the record after it.
-pub struct Stepped {
-    pub record: Record,
-    pub answer: Answer,
-}
 
 // A move's answer beside the count of moves after it.
 pub struct Counted {
@@ -211,30 +174,6 @@ pub fn is_ready_in(
     }
     let next = ahead::next_in(nodes, free, falling, targets, heads, classes, message);
     arrays::held(holders, ahead::channel(head, next)) == 0
-}
-
-// Is a message undelivered and unblocked? For a message that is there: does a move of it succeed?
-pub fn is_ready(record: Record, message: usize) -> bool
-    ensures { λ r. ⌜ r ≡ ready «record» message ⌝ }
-{
-    let free = record.free;
-    let falling = record.falling;
-    let targets = record.targets;
-    let heads = record.heads;
-    let classes = record.classes;
-    let delivered = record.delivered;
-    let held = record.holders;
-    is_ready_in(
-        record.nodes,
-        &free,
-        &falling,
-        &targets,
-        &heads,
-        &classes,
-        &delivered,
-        &held,
-        message,
-    )
 }
 
 // Is every message delivered, by their marks?

@@ -14,9 +14,9 @@ use denote.Memory.{mem, cellAt, partOf}
 use denote.Steps.{owned}
 use denote.Struct.Steps.{spelt}
 use denote.Struct.Laws as LL
-use Rattle.machine.specs.declared.Record.{Record}
-use Rattle.machine.proofs.Record as T
-use Rattle.machine.proofs.Record.Laws as T′
+use Rattle.messages.specs.declared.Record.{Record}
+use Rattle.messages.proofs.Record as T
+use Rattle.messages.proofs.Record.Laws as T′
 
 abbrev pub mach : Record → Val
 mach h = LL.val T.the-type T′.the-laws h

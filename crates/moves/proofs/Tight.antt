@@ -3,10 +3,10 @@ use mathlib.Core.Path.{_≡_, ap}
 use mathlib.Core.List.{List}
 use Prim.Native.Nat.{ℕ}
 use Rattle.refusal.specs.declared.Verdict.{Verdict}
-use Rattle.machine.specs.declared.Record.{Record}
-use Rattle.machine.specs.declared.Answer.{Answer}
-use Rattle.machine.specs.declared.Stepped.{Stepped}
-use Rattle.machine.specs.Step.{with, stepOf}
+use Rattle.messages.specs.declared.Record.{Record}
+use Rattle.messages.specs.declared.Answer.{Answer}
+use Rattle.messages.specs.declared.Stepped.{Stepped}
+use Rattle.messages.specs.Step.{with, stepOf}
 use Rattle.machine.proofs.Tight.{step-tight}
 use Rattle.start.specs.declared.Started.{Started}
 use Rattle.start.specs.Start.{beside, startOf}

@@ -1,10 +1,10 @@
 // The drain machine over a record that its caller lends: start and move, and beside each a function that owns the record, lends it and hands it back.
 ghost use mathlib.Core.Path.{_≡_};
-ghost use Rattle.machine.specs.Step.{with, stepOf};
+ghost use Rattle.messages.specs.Step.{with, stepOf};
 ghost use Rattle.start.specs.Start.{beside, startOf};
-use machine::Answer;
-use machine::Record;
-use machine::Stepped;
+use messages::Answer;
+use messages::Record;
+use messages::Stepped;
 use refusal::Verdict;
 use start::Started;
 

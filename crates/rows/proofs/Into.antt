@@ -14,11 +14,11 @@ use Rattle.finite.proofs.Sets.{has-0, has-setOf}
 use Rattle.finite.proofs.Lists.{getD-zeros, tabulate-length}
 use Rattle.nodes.specs.Limits.{maxNodes}
 use Rattle.nodes.proofs.Words.{word-lt}
+use Rattle.nodes.proofs.Passing.{Pass}
 use Rattle.network.specs.Table.{edgeOf, tableFrom}
 use Rattle.network.proofs.Table.{Words, edge-tableFrom, table-ext, tableFrom-cong}
 use Rattle.turns.proofs.Sift.{false-or}
 use Rattle.rows.specs.Steps.{enteredOf, intoOf}
-use Rattle.rows.proofs.Passing.{Pass}
 use Rattle.rows.proofs.Grid.{below-next}
 
 -- ---- one node

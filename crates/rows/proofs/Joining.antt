@@ -14,10 +14,10 @@ use Rattle.finite.proofs.Sets.{has-0, has-lt, has-setOf, set-ext}
 use Rattle.finite.proofs.Lists.{tabulate-ext}
 use Rattle.nodes.specs.Limits.{maxNodes}
 use Rattle.nodes.proofs.Words.{word-lt}
+use Rattle.nodes.proofs.Passing.{Pass}
 use Rattle.turns.proofs.Sift.{false-or}
 use Rattle.rows.specs.Steps.{pick, leadOf, Worth, halfOf}
 use Rattle.rows.specs.declared.Side.{Side}
-use Rattle.rows.proofs.Passing.{Pass}
 
 pub side-ext : {a b : Side} → a .members ≡ b .members → a .entries ≡ b .entries → a ≡ b
 side-ext p q = λ i. record { members = p i; entries = q i }

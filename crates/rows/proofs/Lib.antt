@@ -1,4 +1,3 @@
-pub mod Passing
 pub mod Joining
 pub mod Into
 pub mod Touched
@@ -6,6 +5,5 @@ pub mod Frontier
 pub mod Rounds
 pub mod Grid
 pub mod Tabling
-pub mod Lookup
 pub mod Tight
 pub mod Meaning

@@ -12,10 +12,10 @@ use Rattle.finite.proofs.Search.{some-any, any-some}
 use Rattle.finite.proofs.Sets.{has-0, has-setOf, set-ext}
 use Rattle.nodes.specs.Limits.{maxNodes}
 use Rattle.nodes.proofs.Words.{word-lt}
+use Rattle.nodes.proofs.Passing.{Pass}
 use Rattle.network.specs.Table.{edgeOf}
 use Rattle.turns.proofs.Sift.{false-or}
 use Rattle.rows.specs.Steps.{touches}
-use Rattle.rows.proofs.Passing.{Pass}
 
 -- all, and the words of those left, are the words of the whole set
 pub record Touching (from : List ℕ) (set all left : ℕ) : Type 0 where

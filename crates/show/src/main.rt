@@ -4,7 +4,7 @@
 fn main() {
     let mut input = io::large_buffer();
     let n = io::read_full(0, &mut input);
-    let mut out = [0u8; programs::show::LONGEST];
-    let written = programs::show::output(&input[..n], &mut out);
-    programs::say(written, &out);
+    let mut out = [0u8; shown::LONGEST];
+    let written = shown::output(&input[..n], &mut out);
+    lines::say(written, &out);
 }

@@ -20,8 +20,8 @@ use Rattle.fabric.proofs.Making.{made-verdict, made-fabric}
 use Rattle.image.specs.Image.{cablingIn}
 use Rattle.image.specs.Calls.{imageFault}
 use Rattle.image.proofs.Faults.{then-fine, then-fault}
-use Rattle.machine.specs.declared.Record.{Record}
-use Rattle.machine.specs.Fresh.{sourceIn, targetIn}
+use Rattle.messages.specs.declared.Record.{Record}
+use Rattle.messages.specs.Fresh.{sourceIn, targetIn}
 use Rattle.start.specs.Start.{fits, strange, listFault, startFault, freshIn, freshOf, recordAfter, beside, startOf}
 
 -- a source that is no node; else the destination decides

@@ -25,8 +25,8 @@ use Rattle.image.specs.Image.{cablingIn}
 use Rattle.image.specs.Calls.{imageFault}
 use Rattle.image.proofs.Faults.{and-then-fine}
 use Rattle.image.proofs.Images.{accepted-good}
-use Rattle.machine.specs.declared.Record.{Record}
-use Rattle.machine.specs.Runs.{labelIn, Tabled, Listed, Reached, fresh}
+use Rattle.messages.specs.declared.Record.{Record}
+use Rattle.messages.specs.Runs.{labelIn, Tabled, Listed, Reached, fresh}
 use Rattle.start.specs.declared.Started.{Started}
 use Rattle.start.specs.Start.{listFault, startFault, freshOf, recordAfter, startOf}
 use Rattle.start.specs.Verdicts.{OfList, fine}

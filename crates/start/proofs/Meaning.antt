@@ -20,7 +20,7 @@ use Rattle.format.specs.Contents.{nodesIn}
 use Rattle.image.specs.Calls.{imageFault}
 use Rattle.image.proofs.Faults.{then-fine, then-fault}
 use Rattle.image.proofs.Meaning.{either-means}
-use Rattle.machine.specs.Fresh.{sourceIn, targetIn}
+use Rattle.messages.specs.Fresh.{sourceIn, targetIn}
 use Rattle.start.specs.Start.{strange, listFault, startFault}
 use Rattle.start.specs.Verdicts.{BothNodes, OfList, odd, over, unknown, fine, OfStart, of-image, of-list}
 use Rattle.start.proofs.Cases.{odd-list, long-list, strange-list, fine-list}

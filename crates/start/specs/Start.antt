@@ -14,8 +14,8 @@ use Rattle.fabric.specs.Fabric.{fabricOf}
 use Rattle.format.specs.Contents.{nodesIn}
 use Rattle.image.specs.Image.{cablingIn}
 use Rattle.image.specs.Calls.{andThen, imageFault}
-use Rattle.machine.specs.declared.Record.{Record}
-use Rattle.machine.specs.Fresh.{sourceIn, targetIn, begunOf}
+use Rattle.messages.specs.declared.Record.{Record}
+use Rattle.messages.specs.Fresh.{sourceIn, targetIn, begunOf}
 use Rattle.start.specs.declared.Started.{Started}
 
 -- 11: "message list odd or over 512 bytes"

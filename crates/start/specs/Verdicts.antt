@@ -10,7 +10,7 @@ use Rattle.refusal.specs.declared.Verdict.{Verdict}
 use Rattle.refusal.specs.declared.Verdict.the-variants.{Fine, Fault}
 use Rattle.format.specs.Contents.{nodesIn}
 use Rattle.image.specs.Verdicts.{OfEither}
-use Rattle.machine.specs.Fresh.{sourceIn, targetIn}
+use Rattle.messages.specs.Fresh.{sourceIn, targetIn}
 
 -- both ends of pair p are nodes
 abbrev pub BothNodes : ℕ → List ℕ → ℕ → Type 0

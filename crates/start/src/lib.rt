@@ -5,7 +5,7 @@ ghost use lib.ListN.{length};
 ghost use Rattle.finite.specs.Search.{least};
 ghost use Rattle.start.specs.Start.{strange, listFault, freshIn, startOf};
 use fabric::Fabric;
-use machine::Record;
+use messages::Record;
 use refusal::Refusal;
 use refusal::Verdict;
 

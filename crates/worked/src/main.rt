@@ -1,9 +1,8 @@
-// The networks worked by hand, as one constant table; specs/Networks.antt has the same entries, and proofs/Entries.antt proves each of them right. The program
-// runs them all, and those marked Run, and prints what it found.
+// The networks worked by hand, as one constant table of bytes: the table of the crate `by_hand`, which proves each of its entries right. The program runs them
+// all, and those marked Run, and prints what it found.
 ghost use mathlib.Core.Path.{_≡_};
-ghost use lib.ListN.{length, getD};
-ghost use Rattle.worked.specs.Networks.{worked};
-ghost use Rattle.worked.specs.Right.{flat};
+ghost use Rattle.by_hand.specs.Networks.{worked};
+ghost use Rattle.worked.specs.Bytes.{flat};
 
 const WORKED: [u8; 472] = [
     2,
@@ -480,22 +479,11 @@ const WORKED: [u8; 472] = [
     0,
 ];
 
-// The byte at place i of the table, 0 past its end.
-fn worked_byte(i: usize) -> u8
-    ensures { λ r. ⌜ r ≡ getD (flat worked) i 0 ⌝ }
-{
-    if i < 472 { WORKED[i] } else { 0 }
-}
-
-// The whole table, as its bytes are read.
+// The whole table.
 fn table() -> [u8; 472]
-    ensures { λ r. ⌜ 472 ≡ length r ⌝ }
+    ensures { λ r. ⌜ r ≡ flat worked ⌝ }
 {
-    let mut all = [0u8; 472];
-    for i in 0..472usize {
-        all[i] = worked_byte(i);
-    }
-    all
+    WORKED
 }
 
 fn main() {

@@ -5,6 +5,7 @@ use super::cabling::*;
 use super::growing::*;
 use super::pack::*;
 use super::random::Random;
+use super::restarts::passes;
 use super::turning::random_turning;
 use super::{Case, Set};
 use crate::calls::route;
@@ -12,7 +13,7 @@ use crate::calls::route;
 type Drawer = fn(&mut Random, Set) -> (&'static str, Vec<u8>);
 
 /// The drawn families; cases go round them by index.
-pub const DRAWN: [(&str, Drawer); 21] = [
+pub const DRAWN: [(&str, Drawer); 22] = [
     ("trees", |r, set| on_network(r, set, tree)),
     ("sparse", |r, set| on_network(r, set, sparse)),
     ("mixed", |r, set| on_network(r, set, mixed)),
@@ -32,6 +33,7 @@ pub const DRAWN: [(&str, Drawer); 21] = [
     ("write", write),
     ("build", build),
     ("steps", steps),
+    ("rounds", rounds),
     ("trace", trace),
     ("bad", bad_call),
 ];
@@ -433,11 +435,15 @@ fn build(random: &mut Random, set: Set) -> (&'static str, Vec<u8>) {
 /// A start, right or wrong, and moves of any messages in any order.
 fn steps(random: &mut Random, set: Set) -> (&'static str, Vec<u8>) {
     let cabling = any_network(random, set);
-    let mut image = either_image(random, &cabling);
+    let messages = some_messages(random, cabling.nodes);
+    ("calls", rounds_call(&[round(random, &cabling, messages)]))
+}
+
+fn round(random: &mut Random, cabling: &Cabling, mut messages: Vec<u8>) -> Round {
+    let mut image = either_image(random, cabling);
     if random.one_in(12) {
         damage(random, &mut image);
     }
-    let mut messages = some_messages(random, cabling.nodes);
     if random.one_in(8) {
         damage(random, &mut messages);
     }
@@ -449,7 +455,38 @@ fn steps(random: &mut Random, set: Set) -> (&'static str, Vec<u8>) {
             _ => random.below(count.max(1)),
         })
         .collect();
-    ("calls", steps_call(&image, &messages, &named))
+    Round::new(&image, &messages, &named)
+}
+
+/// Several starts on one record, on the same network or another, two in three
+/// for routes that turn; some refused, some drained to the end.
+fn rounds(random: &mut Random, set: Set) -> (&'static str, Vec<u8>) {
+    let mut rounds: Vec<Round> = Vec::new();
+    let mut last = random_turning(random, set);
+    for _ in 0..random.between(2, 4) {
+        if random.one_in(3) {
+            last = random_turning(random, set);
+        }
+        let count = random.between(1, 20);
+        let messages = match random.below(3) {
+            0 => some_messages(random, last.cabling.nodes),
+            _ => list(
+                &(0..count)
+                    .map(|_| random.pick(&last.ends))
+                    .collect::<Vec<_>>(),
+            ),
+        };
+        let mut next = round(random, &last.cabling, messages);
+        match random.below(8) {
+            0 => damage(random, &mut next.image),
+            1 => next.list.push(0),
+            2 => next.list.extend([0, 64]),
+            3 => next.named = passes(next.list.len() / 2, 40),
+            _ => {}
+        }
+        rounds.push(next);
+    }
+    ("calls", rounds_call(&rounds))
 }
 
 fn trace(random: &mut Random, set: Set) -> (&'static str, Vec<u8>) {
@@ -466,7 +503,9 @@ fn trace(random: &mut Random, set: Set) -> (&'static str, Vec<u8>) {
 
 /// Calls cut short, with bytes left over, or with another selector.
 fn bad_call(random: &mut Random, set: Set) -> (&'static str, Vec<u8>) {
-    let drawers = [entry, walk, row, hop, routes, read, write, build, steps];
+    let drawers = [
+        entry, walk, row, hop, routes, read, write, build, steps, rounds,
+    ];
     let (_, mut input) = random.pick(&drawers)(random, set);
     match random.below(5) {
         0 => input.truncate(random.below(input.len() + 1)),

@@ -14,6 +14,10 @@ pub fn cases() -> Vec<Case> {
     for image in long_images() {
         cases.extend(any_image("limits", &image));
     }
+    for image in long_images().iter().chain(&longer_by_65_536()) {
+        cases.extend(calls_on(image));
+    }
+    cases.extend(lengths_beyond_16_bits());
     cases.extend(long_calls());
     cases.extend(long_inputs());
     cases.extend(rows_and_hops());
@@ -113,7 +117,7 @@ fn bad_pairs() -> Vec<Cabling> {
 }
 
 /// Images whose contents fit together at 65,534 to 65,537 bytes and beyond.
-fn long_images() -> Vec<Vec<u8>> {
+pub fn long_images() -> Vec<Vec<u8>> {
     let body = ring(4).links_body();
     let mut images = Vec::new();
     for total in [65_534, 65_535, 65_536, 65_537, 70_000] {
@@ -130,11 +134,56 @@ fn long_images() -> Vec<Vec<u8>> {
     images
 }
 
+/// Images that are in order up to their last 65,536 bytes.
+fn longer_by_65_536() -> Vec<Vec<u8>> {
+    let behind = |image: Vec<u8>| [image.as_slice(), &[0; 65_536]].concat();
+    vec![
+        behind(vec![]),
+        behind(ring(4).links_image()),
+        behind(ring(4).full_image()),
+    ]
+}
+
+/// An image through every call that takes one.
+fn calls_on(image: &[u8]) -> Vec<Case> {
+    let inputs = [
+        entry_call(image, 0),
+        entry_call(image, 3),
+        walk_call(image, 6),
+        route_call(image, 0, 1, 4),
+        read_call(image, 16),
+        build_call(image, 16),
+        steps_call(image, &[0, 1, 1, 0], &[0, 1, 0]),
+    ];
+    let case = |input| Case::new("limits", "calls", input);
+    inputs.map(case).to_vec()
+}
+
+/// Tables, pairs and lists that are too long, some of them by 65,536 bytes.
+fn lengths_beyond_16_bits() -> Vec<Case> {
+    let ring = ring(4);
+    let pairs = ring.pair_bytes();
+    let behind = |bytes: &[u8], more: usize| [bytes, &vec![0; more]].concat();
+    let mut inputs = Vec::new();
+    for more in [65_534, 65_535, 65_536, 65_537] {
+        let table = behind(&[0, 1, 0, 1], more);
+        inputs.push(row_call(&table, &[0, 255, 0, 1], [2, 0, 0]));
+        inputs.push(row_call(&[0, 1, 0, 1], &table, [2, 0, 0]));
+        inputs.push(hop_call(&table, &[0, 255, 0, 1], [2, 0, 0, 1]));
+        inputs.push(write_call(4, 0, &behind(&pairs, more), 20));
+        inputs.push(write_call(4, 1, &behind(&pairs, more), 80));
+        let list = behind(&[0, 1, 1, 0], more);
+        inputs.push(steps_call(&ring.links_image(), &list, &[0, 1, 0]));
+    }
+    let case = |input| Case::new("limits", "calls", input);
+    inputs.into_iter().map(case).collect()
+}
+
 /// Inputs of `calls` at and beyond its own limit, and a long drain input.
 fn long_calls() -> Vec<Case> {
     let long = vec![1; 65_535];
     let row = |length: usize| row_call(&long, &vec![2; length], [2, 0, 0]);
-    let mut left_over = row(65_526);
+    let mut left_over = row(65_522);
     left_over.extend([0; 9]);
     let image = ring(4).links_image();
     let list = vec![1; 65_536 - 6 - image.len()];
@@ -142,9 +191,9 @@ fn long_calls() -> Vec<Case> {
     let longer = [drain.as_slice(), &[1, 1, 1]].concat();
     let whole = drain_input(&vec![1; 65_535], 1, &[]);
     vec![
-        Case::new("limits", "calls", row(65_525)),
-        Case::new("limits", "calls", row(65_526)),
-        Case::new("limits", "calls", row(65_527)),
+        Case::new("limits", "calls", row(65_521)),
+        Case::new("limits", "calls", row(65_522)),
+        Case::new("limits", "calls", row(65_523)),
         Case::new("limits", "calls", left_over),
         Case::new("limits", "drain", drain),
         Case::new("limits", "drain", longer),

@@ -8,6 +8,7 @@ pub mod growing;
 pub mod limits;
 pub mod pack;
 pub mod random;
+pub mod restarts;
 pub mod shapes;
 pub mod turning;
 pub mod worked;
@@ -44,6 +45,7 @@ pub fn fixed(set: Set) -> Vec<Case> {
     cases.extend(shapes::cases(set));
     cases.extend(damage::cases(set));
     cases.extend(limits::cases());
+    cases.extend(restarts::cases());
     cases
 }
 

@@ -28,10 +28,12 @@ impl Pack {
         self
     }
 
-    pub fn bytes(self, bytes: &[u8]) -> Pack {
-        let mut pack = self.number(bytes.len());
-        pack.input.extend_from_slice(bytes);
-        pack
+    /// The length in 32 bits, and the bytes.
+    pub fn bytes(mut self, bytes: &[u8]) -> Pack {
+        let length = u32::try_from(bytes.len()).expect("a length of 32 bits");
+        self.input.extend(length.to_le_bytes());
+        self.input.extend_from_slice(bytes);
+        self
     }
 
     pub fn numbers(self, numbers: &[usize]) -> Pack {
@@ -83,9 +85,35 @@ pub fn build_call(image: &[u8], room: usize) -> Vec<u8> {
     Pack::call(7).bytes(image).number(room).done()
 }
 
+/// A start and the messages that are to move after it.
+#[derive(Clone, Debug)]
+pub struct Round {
+    pub image: Vec<u8>,
+    pub list: Vec<u8>,
+    pub named: Vec<usize>,
+}
+
+impl Round {
+    pub fn new(image: &[u8], list: &[u8], named: &[usize]) -> Round {
+        Round {
+            image: image.to_vec(),
+            list: list.to_vec(),
+            named: named.to_vec(),
+        }
+    }
+}
+
+/// Rounds one after the other on one record.
+pub fn rounds_call(rounds: &[Round]) -> Vec<u8> {
+    let round = |pack: Pack, round: &Round| {
+        let start = pack.bytes(&round.image).bytes(&round.list);
+        start.number(round.named.len()).numbers(&round.named)
+    };
+    rounds.iter().fold(Pack::call(8), round).done()
+}
+
 pub fn steps_call(image: &[u8], list: &[u8], messages: &[usize]) -> Vec<u8> {
-    let start = Pack::call(8).bytes(image).bytes(list);
-    start.number(messages.len()).numbers(messages).done()
+    rounds_call(&[Round::new(image, list, messages)])
 }
 
 pub fn trace_call(drain_input: &[u8]) -> Vec<u8> {

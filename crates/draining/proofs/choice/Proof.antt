@@ -5,8 +5,9 @@ use Prim.Native.Nat.{ℕ, _-_, _≤_, _<_, min}
 use native.Mathlib.Omega.{arith}
 use borrow.Author.Count.{below-none, below-more}
 use borrow.Author.Needs.{needs}
-use Rattle.machine.specs.Sizes.{maxMessages}
-use Rattle.machine.specs.Ready.{ready, told}
+use Rattle.messages.specs.Sizes.{maxMessages}
+use Rattle.messages.specs.Ready.{ready}
+use Rattle.machine.specs.InPlace.{told}
 use Rattle.draining.specs.Order.{around}
 use Rattle.draining.proofs.Chosen.{asked-here, asked-none}
 use Rattle.draining.proofs.choice.Statement.{statement}

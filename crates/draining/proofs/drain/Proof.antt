@@ -7,9 +7,9 @@ use denote.Ref.{now}
 use Rattle.finite.proofs.Truth.{non-true, non-false, not-non}
 use Rattle.refusal.specs.declared.Verdict.the-variants.{Fine}
 use Rattle.nodes.specs.Limits.{maxNodes}
-use Rattle.machine.specs.Step.{isDelivered}
+use Rattle.messages.specs.Step.{isDelivered}
+use Rattle.messages.specs.Ready.{allDelivered}
 use Rattle.machine.specs.InPlace.{packed}
-use Rattle.machine.specs.Ready.{allDelivered}
 use Rattle.start.specs.Start.{startFault}
 use Rattle.draining.specs.Drained.{sumOf}
 use Rattle.draining.proofs.Answers.{started-refused, started-fine, started-fresh, drained-is}

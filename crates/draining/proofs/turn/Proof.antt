@@ -1,7 +1,7 @@
 -- `draining::turn` meets its contract: past the end of the holders no channel is held.
 use mathlib.Core.Path.{_≡_}
 use lib.ListN.{length}
-use Rattle.machine.specs.Sizes.{maxPairs}
+use Rattle.messages.specs.Sizes.{maxPairs}
 use Rattle.machine.proofs.InPlace.{free-past}
 use borrow.Author.Needs.{needs}
 use Rattle.draining.proofs.turn.Statement.{statement}

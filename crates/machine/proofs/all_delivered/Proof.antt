@@ -1,7 +1,6 @@
 -- `machine::all_delivered` meets its contract.
-use Rattle.machine.specs.Step.{isDelivered}
-use Rattle.machine.specs.Ready.{allDelivered}
-use borrow.Author.Needs.{needs}
+use Rattle.messages.specs.Step.{isDelivered}
+use Rattle.messages.specs.Ready.{allDelivered}
 use Rattle.machine.proofs.all_delivered.Statement.{statement}
 use Rattle.machine.proofs.all_delivered.Tie as tie
 
@@ -10,4 +9,4 @@ unfolding allDelivered isDelivered
 returns c = c .all-delivered-in .ensures
 
 pub all-delivered-spec : {M : Type 1} → statement M
-all-delivered-spec = tie.close (tie.spec (λ c κs. search needs) returns)
+all-delivered-spec = tie.close (tie.spec (λ c κs. tt) returns)

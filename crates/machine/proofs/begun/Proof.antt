@@ -1,6 +1,6 @@
 -- `machine::begun` meets its contract.
+use native.Mathlib.Omega.{arith}
 use Rattle.machine.proofs.Fresh.{begun-parts}
-use borrow.Author.Needs.{needs}
 use Rattle.machine.proofs.begun.Statement.{statement}
 use Rattle.machine.proofs.begun.Tie as tie
 
@@ -18,10 +18,10 @@ pub begun-spec : {M : Type 1} → statement M
 begun-spec =
     tie.close
     (tie.spec
-    (λ c κs. search needs)
-    (λ c κs. search needs)
-    (λ c κs. search needs)
-    (λ c κs. search needs)
-    (λ c κs. search needs)
-    (λ c κs. search needs)
+    (λ c κs. omega arith)
+    (λ c κs. omega arith)
+    (λ c κs. tt)
+    (λ c κs. tt)
+    (λ c κs. tt)
+    (λ c κs. tt)
     returns)

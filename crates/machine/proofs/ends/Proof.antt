@@ -3,7 +3,7 @@ use mathlib.Core.Path.{refl}
 use Prim.Native.Nat.{_+_, _*_, _-_, _≤_}
 use native.Mathlib.Omega.{arith}
 use lib.ListN.{getD}
-use Rattle.machine.specs.Sizes.{maxMessages}
+use Rattle.messages.specs.Sizes.{maxMessages}
 use Rattle.finite.proofs.Filling.{Filling, filling-none, filling-more, filling-all}
 use Rattle.machine.proofs.ends.Statement.{statement}
 use Rattle.machine.proofs.ends.Tie as tie

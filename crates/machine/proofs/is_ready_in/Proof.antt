@@ -4,11 +4,10 @@ use Prim.Native.Nat.{ℕ}
 use denote.Ref.{now}
 use Rattle.finite.specs.Truth.{same}
 use Rattle.finite.proofs.Truth.{eq-same, ne-same}
-use Rattle.machine.specs.Step.{isDelivered, nextNode, nextChannel, holder}
-use Rattle.machine.specs.Ready.{told}
-use Rattle.machine.proofs.Moves.{next-told}
-use Rattle.machine.proofs.Ready.{ready-never, ready-there, ready-next}
-use borrow.Author.Needs.{needs}
+use Rattle.messages.specs.Step.{isDelivered, nextNode, nextChannel, holder}
+use Rattle.messages.proofs.Ready.{ready-never, ready-there, ready-next}
+use Rattle.machine.specs.InPlace.{told}
+use Rattle.machine.proofs.Told.{next-told}
 use Rattle.machine.proofs.is_ready_in.Statement.{statement}
 use Rattle.machine.proofs.is_ready_in.Tie as tie
 
@@ -44,12 +43,12 @@ pub is-ready-in-spec : {M : Type 1} → statement M
 is-ready-in-spec =
     tie.close
     (tie.spec
-    (λ c κs. search needs)
+    (λ c κs. tt)
     returns
-    (λ c κs. search needs)
-    (λ c κs. search needs)
+    (λ c κs. tt)
+    (λ c κs. tt)
     returns-2
-    (λ c κs. search needs)
-    (λ c κs. search needs)
-    (λ c κs. search needs)
+    (λ c κs. tt)
+    (λ c κs. tt)
+    (λ c κs. tt)
     returns-3)

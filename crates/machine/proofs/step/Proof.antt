@@ -15,4 +15,4 @@ returns c =
     s .step-in .ensures ∙ step-in _ _ _ n (free-past n)
 
 pub step-spec : {M : Type 1} → statement M
-step-spec = tie.close (tie.spec (λ c. search needs) (λ c. search needs) (λ c. search needs) holders-size (λ c κs. search needs) returns)
+step-spec = tie.close (tie.spec (λ c. search needs) (λ c. search needs) (λ c. search needs) holders-size (λ c κs. tt) returns)

@@ -42,11 +42,11 @@ use denote.Triple.Table.{entered, cited}
 use denote.Triple.Walked.{says, Stays, stay-none, stay-none-slice, walkOf, AllGo, goes-none, goes-none-slice, Walks, ends-at, walked, walk-meets}
 use denote.Exit.{yes}
 use Rattle.refusal.specs.declared.Verdict.{Verdict}
-use Rattle.machine.specs.declared.Record.{Record}
+use Rattle.messages.specs.declared.Record.{Record}
 use Rattle.start.specs.declared.Started.{Started}
 use Rattle.start.specs.Start.{beside, startOf}
-use Rattle.machine.proofs.Record as T
-use Rattle.machine.proofs.Record.Laws as T′
+use Rattle.messages.proofs.Record as T
+use Rattle.messages.proofs.Record.Laws as T′
 use Rattle.start.proofs.Started as S
 use Rattle.start.proofs.Started.Laws as S′
 use Rattle.refusal.proofs.Verdict as N

@@ -1,7 +1,7 @@
 -- `rows::enter` meets its contract. The invariant: v has entered the words of the nodes passed.
 use mathlib.Core.Path.{sym, _∙_}
 use native.Mathlib.Omega.{arith}
-use Rattle.rows.proofs.Passing.{Pass, pass}
+use Rattle.nodes.proofs.Passing.{Pass, pass}
 use Rattle.rows.proofs.Into.{Entering, entering-none, entering-more, entering-all}
 use Rattle.rows.proofs.enter.Statement.{statement}
 use Rattle.rows.proofs.enter.Tie as tie

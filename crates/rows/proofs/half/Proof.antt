@@ -2,9 +2,9 @@
 use mathlib.Core.Path.{_≡_, sym, _∙_}
 use native.Mathlib.Omega.{arith}
 use lib.ListN.{length-map}
+use Rattle.nodes.proofs.Passing.{Pass, pass}
 use Rattle.network.specs.Table.{edgeOf}
 use Rattle.rows.specs.Steps.{leadOf}
-use Rattle.rows.proofs.Passing.{Pass, pass}
 use Rattle.rows.proofs.Joining.{Halving, halving-none, halving-joins, halving-stays, halving-all}
 use Rattle.rows.proofs.half.Statement.{statement}
 use Rattle.rows.proofs.half.Tie as tie

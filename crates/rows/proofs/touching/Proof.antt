@@ -1,6 +1,6 @@
 -- `rows::touching` meets its contract. The invariant: the nodes passed have given their words.
 use native.Mathlib.Omega.{arith}
-use Rattle.rows.proofs.Passing.{Pass, pass}
+use Rattle.nodes.proofs.Passing.{Pass, pass}
 use Rattle.rows.proofs.Touched.{Touching, touching-none, touching-more, touching-all}
 use Rattle.rows.proofs.touching.Statement.{statement}
 use Rattle.rows.proofs.touching.Tie as tie

@@ -7,10 +7,10 @@ use Rattle.calls.proofs.machines.stepped.Statement.{statement}
 use Rattle.calls.proofs.machines.stepped.Tie as tie
 
 abbrev Inv-loop : tie.InvT-loop
-Inv-loop named last₀ i₀ t8 i-end last i = i-end ≤ length named / 2
+Inv-loop named last₀ i₀ i-end last i = i-end ≤ length named / 2
 
 abbrev μ-loop : tie.MeasureT-loop
-μ-loop named last₀ i₀ t8 i-end last i = i-end - i
+μ-loop named last₀ i₀ i-end last i = i-end - i
 
 pub stepped-spec : {M : Type 1} → statement M
 stepped-spec =
@@ -26,6 +26,5 @@ stepped-spec =
     (λ c. omega arith)
     (λ c. omega arith)
     (λ c. omega arith)
-    (λ c. search needs)
     (λ c κs. search needs)
     (λ c. search needs))

@@ -2,8 +2,7 @@
 use mathlib.Core.Path.{sym}
 use native.Mathlib.Omega.{arith}
 use Rattle.finite.proofs.Truth.{false-non, true-non, eq-same, ne-same}
-use Rattle.machine.proofs.Moves.{class-falling, class-fall, class-free}
-use borrow.Author.Needs.{needs}
+use Rattle.messages.proofs.Moves.{class-falling, class-fall, class-free}
 use Rattle.machine.proofs.ahead.class_after.Statement.{statement}
 use Rattle.machine.proofs.ahead.class_after.Tie as tie
 
@@ -25,4 +24,4 @@ returns-3 c =
     sym (class-free _ _ _ _ (false-non (eq-same (c .before .before .before .if1 .left))) (omega arith))
 
 pub class-after-spec : {M : Type 1} → statement M
-class-after-spec = tie.close (tie.spec returns (λ c κs. search needs) (λ c κs. search needs) returns-2 returns-3)
+class-after-spec = tie.close (tie.spec returns (λ c κs. tt) (λ c κs. tt) returns-2 returns-3)

@@ -1,8 +1,7 @@
 -- `machine::ahead::next_in` meets its contract.
 use mathlib.Core.Path.{sym, _∙_}
-use Rattle.machine.specs.Step.{isFalling}
-use Rattle.machine.proofs.Moves.{next-falling, next-free}
-use borrow.Author.Needs.{needs}
+use Rattle.messages.specs.Step.{isFalling}
+use Rattle.messages.proofs.Moves.{next-falling, next-free}
 use Rattle.machine.proofs.ahead.next_in.Statement.{statement}
 use Rattle.machine.proofs.ahead.next_in.Tie as tie
 
@@ -18,11 +17,11 @@ pub next-in-spec : {M : Type 1} → statement M
 next-in-spec =
     tie.close
     (tie.spec
-    (λ c κs. search needs)
-    (λ c κs. search needs)
-    (λ c κs. search needs)
-    (λ c κs. search needs)
-    (λ c κs. search needs)
+    (λ c κs. tt)
+    (λ c κs. tt)
+    (λ c κs. tt)
+    (λ c κs. tt)
+    (λ c κs. tt)
     returns
-    (λ c κs. search needs)
+    (λ c κs. tt)
     returns-2)

@@ -3,7 +3,6 @@ use mathlib.Core.Path.{ap}
 use Prim.Native.Nat.{ℕ, _+_, _*_}
 use native.Mathlib.Nat.{mul-le-mul}
 use native.Mathlib.Omega.{arith}
-use borrow.Author.Needs.{needs}
 use Rattle.machine.proofs.ahead.place.Statement.{statement}
 use Rattle.machine.proofs.ahead.place.Tie as tie
 
@@ -23,4 +22,4 @@ returns : tie.Need-returns
 returns c = ap (λ (x : ℕ). c .before .args .head * x + c .before .args .target) (c .capped .ensures)
 
 pub place-spec : {M : Type 1} → statement M
-place-spec = tie.close (tie.spec (λ c κs. search needs) mul-result add-result returns)
+place-spec = tie.close (tie.spec (λ c κs. tt) mul-result add-result returns)

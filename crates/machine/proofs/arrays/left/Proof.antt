@@ -1,6 +1,6 @@
 -- `machine::arrays::left` meets its contract.
 use Rattle.finite.proofs.Truth.{eq-same, ne-same}
-use Rattle.machine.specs.Step.{released}
+use Rattle.messages.specs.Step.{released}
 use Rattle.machine.proofs.arrays.left.Statement.{statement}
 use Rattle.machine.proofs.arrays.left.Tie as tie
 

@@ -1,6 +1,6 @@
 -- `machine::arrays::no_holders` meets its contract.
 use mathlib.Core.Path.{refl}
-use Rattle.machine.specs.Fresh.{zeros}
+use Rattle.messages.specs.Fresh.{zeros}
 use Rattle.machine.proofs.arrays.no_holders.Statement.{statement}
 use Rattle.machine.proofs.arrays.no_holders.Tie as tie
 

@@ -4,7 +4,7 @@ use Prim.Native.Nat.{_-_, _≤_}
 use native.Mathlib.Nat.{le-refl}
 use native.Mathlib.Omega.{arith}
 use lib.ListN.{length}
-use Rattle.machine.specs.Step.{released}
+use Rattle.messages.specs.Step.{released}
 use Rattle.machine.specs.InPlace.{leftIn, givenBack}
 use Rattle.finite.proofs.Filling.{Filling, filling-none, filling-more, filling-rest}
 use Rattle.machine.proofs.InPlace.{left-below, left-from}

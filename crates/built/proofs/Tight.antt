@@ -1,0 +1,12 @@
+-- What Build writes is determined: any two outcomes that `output` may have are equal, answer and buffer.
+use mathlib.Core.Path.{_≡_}
+use mathlib.Core.List.{List}
+use Prim.Native.Nat.{ℕ}
+use Rattle.written.specs.declared.Written.{Written}
+use Rattle.written.specs.Written.{Writes, roomFor}
+use Rattle.written.proofs.Tight.{writes-unique}
+use Rattle.built.specs.Builds.{longestBuild, outputOf}
+
+pub build-determined : (input : List ℕ) {before l m : List ℕ} {r s : Written} → Writes (roomFor longestBuild before) (outputOf input) before r l
+    → Writes (roomFor longestBuild before) (outputOf input) before s m → (r ≡ s) × (l ≡ m)
+build-determined input = writes-unique

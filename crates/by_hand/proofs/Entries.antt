@@ -1,0 +1,107 @@
+-- The one statement over the table of worked networks: every entry is right. Both sides of each equation are computed and are the same; that a drain counts the sum
+-- of (hops + 1) from any seed is its law, so of the moves only that sum is computed.
+use mathlib.Core.Path.{_≡_, refl, _∙_, ap, subst⁻¹}
+use mathlib.Core.Bool.{Bool, true, false}
+use mathlib.Core.List.{List, [], _∷_, List·Memᴰ, List·Memᴰ·cases-cons, List·Memᴰ·not-nil}
+use mathlib.Core.Logic.{⊎-elim}
+use Prim.Native.Nat.{ℕ}
+use Rattle.finite.specs.Truth.{_&_, _or_, non, same, below}
+use Rattle.finite.specs.Sum.{sumTo}
+use Rattle.finite.specs.Search.{any, all, least, leastValue, lowestAt, leastBy}
+use Rattle.finite.specs.Sets.{has, setOf, without}
+use Rattle.finite.specs.Lists.{upFrom, tabulate}
+use Rattle.graph.specs.Network.{among, degree}
+use Rattle.graph.specs.Reach.{grow, spread, reach, covers, joined, connected, cut}
+use Rattle.network.specs.Table.{joins, linkedBy, linked}
+use Rattle.lawful.specs.Turn.{rises, falls, prohibited}
+use Rattle.lawful.specs.Entry.{leads, joining, layer, lowestLead, firstLayer, entry, after, follow, routeOf}
+use Rattle.rule.specs.Candidate.{room, candidate, choice}
+use Rattle.rule.specs.Labels.{labelIn, remains, give, stage, labelled, labelsOf}
+use Rattle.turns.specs.Turns.{turnsThat, allTurns, prohibitedTurns}
+use Rattle.refusal.specs.declared.Verdict.the-variants.{Fine}
+use Rattle.cabling.specs.Cabling.{Cabling, links, Good}
+use Rattle.cabling.specs.Faults.{counted, shaped, badEnds, notAbove, badPair, crowded, unreached, nodeFault, linkFault, faultOf}
+use Rattle.cabling.specs.Faults as faults
+use Rattle.cabling.proofs.Meaning.{fault-fine}
+use Rattle.rows.specs.Tables.{rowsOf}
+use Rattle.fabric.specs.Fabric.{labelsFor, rowsFor}
+use Rattle.format.specs.Contents.{linksKinds, fullKinds}
+use Rattle.format.specs.Bytes.{entriesOf, joinedUp, imageFrom}
+use Rattle.image.specs.Image.{bodiesOf, imageOf, kindsOf}
+use Rattle.image.proofs.Faults.{then-fine}
+use Rattle.image.proofs.Images.{read-cabling, image-accepted}
+use Rattle.messages.specs.declared.Record.{Record}
+use Rattle.messages.specs.Fresh.{begunOf}
+use Rattle.messages.specs.Runs.{messagesIn, routeIn, allMoves}
+use Rattle.order.specs.Seed.{lookAt}
+use Rattle.start.specs.Start.{fits, strange, listFault, startFault, freshOf}
+use Rattle.draining.specs.Order.{turnOf}
+use Rattle.draining.specs.Drained.{drainOf}
+use Rattle.draining.proofs.Answers.{drain-record}
+use Rattle.draining.proofs.Meaning.{end-moves}
+use Rattle.by_hand.specs.Networks.{Worked, link, triangle, path, ring, hub, all-four, blocks, worked}
+use Rattle.by_hand.specs.Right.{Given, Right}
+
+-- over either image of a good cabling a drain counts the sum of (hops + 1), whatever its seed
+drained-moves : (c : Cabling) (list : List ℕ) → Good c → listFault (c .nodes) list ≡ Fine → (full : Bool) (old : Record) (seed : ℕ)
+    → drainOf old (imageOf (kindsOf full) c) list seed .«record» .moves ≡ allMoves (c .nodes) (links c) (labelsFor c) list
+drained-moves c list g h full old seed =
+    let b = imageOf (kindsOf full) c in
+    let e = read-cabling c g full in
+    let fine : startFault b list ≡ Fine = then-fine _ (image-accepted c g full) ∙ ap (λ (x : Cabling). listFault (x .nodes) list) e ∙ h in
+    ap (λ (r : Record). r .moves) (drain-record old b list seed refl fine) ∙ end-moves b list fine seed
+    ∙ ap (λ (x : Cabling). allMoves (x .nodes) (links x) (labelsFor x) list) e
+
+-- what is to be computed of an entry. The labels are computed once: W, the first node and the moves go by those that the entry lists
+right : (e : Worked)
+    → faultOf (e .cabling) ≡ Fine
+    → labelsFor (e .cabling) ≡ e .labels
+    → allTurns (e .cabling .nodes) (links (e .cabling)) ≡ e .turns
+    → prohibitedTurns (e .cabling .nodes) (links (e .cabling)) (labelIn (e .labels)) ≡ e .prohibited
+    → labelIn (e .labels) (e .first) ≡ 1
+    → Given (e .free) (rowsFor (e .cabling) true)
+    → Given (e .falling) (rowsFor (e .cabling) false)
+    → Given (e .links-image) (imageOf linksKinds (e .cabling))
+    → Given (e .full-image) (imageOf fullKinds (e .cabling))
+    → listFault (e .cabling .nodes) (e .messages) ≡ Fine
+    → allMoves (e .cabling .nodes) (links (e .cabling)) (e .labels) (e .messages) ≡ e .moves
+    → ((full : Bool) → turnOf 0 (freshOf (imageOf (kindsOf full) (e .cabling)) (e .messages)) .look ≡ e .look)
+    → Right e
+right e fine labels turns barred first free falling short long listed sum look =
+    let c = e .cabling in
+    let good = fault-fine c .0 fine in
+    record {
+      good = good;
+      labels = labels;
+      turns = turns;
+      prohibited = ap (λ (l : List ℕ). prohibitedTurns (c .nodes) (links c) (labelIn l)) labels ∙ barred;
+      first = ap (λ (l : List ℕ). labelIn l (e .first)) labels ∙ first;
+      free = free;
+      falling = falling;
+      links-image = short;
+      full-image = long;
+      moves = λ full old seed.
+          drained-moves c (e .messages) good listed full old seed ∙ ap (λ (l : List ℕ). allMoves (c .nodes) (links c) l (e .messages)) labels ∙ sum;
+      look = look;
+    }
+
+no-entry : (e : Worked) → List·Memᴰ e [] → Right e
+no-entry e m = absurd (List·Memᴰ·not-nil m)
+
+and-this : {x : Worked} {l : List Worked} → Right x → ((e : Worked) → List·Memᴰ e l → Right e) → (e : Worked) → List·Memᴰ e (x ∷ l) → Right e
+and-this r rest e m = ⊎-elim (λ q. subst⁻¹ Right q r) (rest e) (List·Memᴰ·cases-cons m)
+
+pub every-right : (e : Worked) → List·Memᴰ e worked → Right e
+unfolding _&_ _or_ non same below sumTo any all least leastValue lowestAt leastBy has setOf without upFrom tabulate
+    among degree grow spread reach covers joined connected cut joins linkedBy linked rises falls prohibited
+    leads joining layer lowestLead firstLayer entry after follow routeOf room candidate choice remains give stage labelled labelsOf turnsThat
+    faultOf linkFault nodeFault unreached crowded badPair notAbove faults.rises badEnds shaped counted
+    rowsOf entriesOf joinedUp imageFrom bodiesOf imageOf messagesIn routeIn allMoves fits strange listFault begunOf freshOf lookAt turnOf
+every-right =
+    and-this (right link refl refl refl refl refl refl refl refl refl refl refl (λ full. refl))
+    (and-this (right triangle refl refl refl refl refl refl refl tt tt refl refl (λ full. refl))
+    (and-this (right path refl refl refl refl refl refl refl tt tt refl refl (λ full. refl))
+    (and-this (right ring refl refl refl refl refl refl refl tt tt refl refl (λ full. refl))
+    (and-this (right hub refl refl refl refl refl refl refl tt tt refl refl (λ full. refl))
+    (and-this (right all-four refl refl refl refl refl refl refl tt tt refl refl (λ full. refl))
+    (and-this (right blocks refl refl refl refl refl tt tt tt tt refl refl (λ full. refl)) no-entry))))))

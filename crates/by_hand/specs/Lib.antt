@@ -1,0 +1,2 @@
+pub mod Networks
+pub mod Right

@@ -1,0 +1,144 @@
+-- 01, "Networks worked by hand": the constant table of those marked P.
+use mathlib.Core.List.{List, [], _∷_}
+use Prim.Native.Nat.{ℕ}
+use Rattle.cabling.specs.Cabling.{Cabling, cabled}
+
+-- a cabling, with what the rules give for it: the labels, T, W, the node that is labelled first, both tables of rows and both images; then messages, how many
+-- successful moves drain them, and which of them seed 0 looks at first. Rows and images that are left empty are not worked by hand
+pub record Worked : Type 0 where
+  pub cabling : Cabling
+  pub labels : List ℕ
+  pub turns : ℕ
+  pub prohibited : ℕ
+  pub first : ℕ
+  pub free : List ℕ
+  pub falling : List ℕ
+  pub links-image : List ℕ
+  pub full-image : List ℕ
+  pub messages : List ℕ
+  pub moves : ℕ
+  pub look : ℕ
+
+-- "link 0-1: labels 1, 2. Its links image is 01 01 01 00 08 00 04 00 02 00 00 01", "its full bodies are 02 00 00 01, 01 02, 00 01 00 01, 00 FF 00 01; 40 bytes in all"
+abbrev pub link : Worked
+link = record {
+  cabling = cabled 2 (0 ∷ 1 ∷ []);
+  labels = 1 ∷ 2 ∷ [];
+  turns = 0;
+  prohibited = 0;
+  first = 0;
+  free = 0 ∷ 1 ∷ 0 ∷ 1 ∷ [];
+  falling = 0 ∷ 255 ∷ 0 ∷ 1 ∷ [];
+  links-image = 1 ∷ 1 ∷ 1 ∷ 0 ∷ 8 ∷ 0 ∷ 4 ∷ 0 ∷ 2 ∷ 0 ∷ 0 ∷ 1 ∷ [];
+  full-image = 1 ∷ 4 ∷ 1 ∷ 0 ∷ 26 ∷ 0 ∷ 4 ∷ 0 ∷ 2 ∷ 0 ∷ 30 ∷ 0 ∷ 2 ∷ 0 ∷ 3 ∷ 0 ∷ 32 ∷ 0 ∷ 4 ∷ 0 ∷ 4 ∷ 0 ∷ 36 ∷ 0 ∷ 4 ∷ 0 ∷ 2 ∷ 0 ∷ 0 ∷ 1 ∷ 1 ∷ 2 ∷ 0 ∷ 1 ∷ 0 ∷ 1 ∷ 0 ∷ 255 ∷ 0 ∷ 1 ∷ [];
+  messages = [];
+  moves = 0;
+  look = 0;
+}
+
+-- "triangle: labels 1, 2, 3; T = 3, W = 1"
+abbrev pub triangle : Worked
+triangle = record {
+  cabling = cabled 3 (0 ∷ 1 ∷ 0 ∷ 2 ∷ 1 ∷ 2 ∷ []);
+  labels = 1 ∷ 2 ∷ 3 ∷ [];
+  turns = 3;
+  prohibited = 1;
+  first = 0;
+  free = 0 ∷ 1 ∷ 2 ∷ 0 ∷ 1 ∷ 2 ∷ 0 ∷ 1 ∷ 2 ∷ [];
+  falling = 0 ∷ 255 ∷ 255 ∷ 0 ∷ 1 ∷ 255 ∷ 0 ∷ 1 ∷ 2 ∷ [];
+  links-image = [];
+  full-image = [];
+  messages = [];
+  moves = 0;
+  look = 0;
+}
+
+-- "path 0-1-2: labels 1, 2, 3; W = 0"
+abbrev pub path : Worked
+path = record {
+  cabling = cabled 3 (0 ∷ 1 ∷ 1 ∷ 2 ∷ []);
+  labels = 1 ∷ 2 ∷ 3 ∷ [];
+  turns = 1;
+  prohibited = 0;
+  first = 0;
+  free = 0 ∷ 1 ∷ 1 ∷ 0 ∷ 1 ∷ 2 ∷ 1 ∷ 1 ∷ 2 ∷ [];
+  falling = 0 ∷ 255 ∷ 255 ∷ 0 ∷ 1 ∷ 255 ∷ 1 ∷ 1 ∷ 2 ∷ [];
+  links-image = [];
+  full-image = [];
+  messages = [];
+  moves = 0;
+  look = 0;
+}
+
+-- the ring 0-1, 0-3, 1-2, 2-3: "labels 1, 2, 3, 4", "its falling rows: 0 - - -; 0 1 - -; 1 1 2 -; 0 2 2 3 (- is 255)", the free rows that Show prints,
+-- and "messages 0→2, 1→3, 2→0, 3→1 on the ring take 12 successful moves. From seed 0 the drain looks at message 2 first."
+abbrev pub ring : Worked
+ring = record {
+  cabling = cabled 4 (0 ∷ 1 ∷ 0 ∷ 3 ∷ 1 ∷ 2 ∷ 2 ∷ 3 ∷ []);
+  labels = 1 ∷ 2 ∷ 3 ∷ 4 ∷ [];
+  turns = 4;
+  prohibited = 1;
+  first = 0;
+  free = 0 ∷ 1 ∷ 1 ∷ 3 ∷ 0 ∷ 1 ∷ 2 ∷ 2 ∷ 1 ∷ 1 ∷ 2 ∷ 3 ∷ 0 ∷ 2 ∷ 2 ∷ 3 ∷ [];
+  falling = 0 ∷ 255 ∷ 255 ∷ 255 ∷ 0 ∷ 1 ∷ 255 ∷ 255 ∷ 1 ∷ 1 ∷ 2 ∷ 255 ∷ 0 ∷ 2 ∷ 2 ∷ 3 ∷ [];
+  links-image = [];
+  full-image = [];
+  messages = 0 ∷ 2 ∷ 1 ∷ 3 ∷ 2 ∷ 0 ∷ 3 ∷ 1 ∷ [];
+  moves = 12;
+  look = 2;
+}
+
+-- "hub 0 with leaves 1, 2, 3: labels 3, 1, 2, 4"
+abbrev pub hub : Worked
+hub = record {
+  cabling = cabled 4 (0 ∷ 1 ∷ 0 ∷ 2 ∷ 0 ∷ 3 ∷ []);
+  labels = 3 ∷ 1 ∷ 2 ∷ 4 ∷ [];
+  turns = 3;
+  prohibited = 0;
+  first = 1;
+  free = 0 ∷ 1 ∷ 2 ∷ 3 ∷ 0 ∷ 1 ∷ 0 ∷ 0 ∷ 0 ∷ 0 ∷ 2 ∷ 0 ∷ 0 ∷ 0 ∷ 0 ∷ 3 ∷ [];
+  falling = 0 ∷ 1 ∷ 2 ∷ 255 ∷ 255 ∷ 1 ∷ 255 ∷ 255 ∷ 255 ∷ 255 ∷ 2 ∷ 255 ∷ 0 ∷ 0 ∷ 0 ∷ 3 ∷ [];
+  links-image = [];
+  full-image = [];
+  messages = [];
+  moves = 0;
+  look = 0;
+}
+
+-- "four nodes, all linked: T = 12, W = 4"
+abbrev pub all-four : Worked
+all-four = record {
+  cabling = cabled 4 (0 ∷ 1 ∷ 0 ∷ 2 ∷ 0 ∷ 3 ∷ 1 ∷ 2 ∷ 1 ∷ 3 ∷ 2 ∷ 3 ∷ []);
+  labels = 1 ∷ 2 ∷ 3 ∷ 4 ∷ [];
+  turns = 12;
+  prohibited = 4;
+  first = 0;
+  free = 0 ∷ 1 ∷ 2 ∷ 3 ∷ 0 ∷ 1 ∷ 2 ∷ 3 ∷ 0 ∷ 1 ∷ 2 ∷ 3 ∷ 0 ∷ 1 ∷ 2 ∷ 3 ∷ [];
+  falling = 0 ∷ 255 ∷ 255 ∷ 255 ∷ 0 ∷ 1 ∷ 255 ∷ 255 ∷ 0 ∷ 1 ∷ 2 ∷ 255 ∷ 0 ∷ 1 ∷ 2 ∷ 3 ∷ [];
+  links-image = [];
+  full-image = [];
+  messages = [];
+  moves = 0;
+  look = 0;
+}
+
+-- "nodes 0 and 1 each linked to 2, 3, 4, 5; nodes 6 to 10, 11 to 15, 16 to 20, 21 to 25 complete among themselves; 2-6, 3-11, 4-16, 5-21. Node 7 is labelled
+-- first: 0 and 1 also have degree 4 but 12 > 8."
+abbrev pub blocks : Worked
+blocks = record {
+  cabling = cabled 26 (0 ∷ 2 ∷ 0 ∷ 3 ∷ 0 ∷ 4 ∷ 0 ∷ 5 ∷ 1 ∷ 2 ∷ 1 ∷ 3 ∷ 1 ∷ 4 ∷ 1 ∷ 5 ∷ 2 ∷ 6 ∷ 3 ∷ 11 ∷ 4 ∷ 16 ∷ 5 ∷ 21 ∷ 6 ∷ 7 ∷ 6 ∷ 8 ∷ 6 ∷ 9 ∷ 6 ∷ 10 ∷ 7 ∷ 8 ∷ 7 ∷ 9 ∷ 7 ∷ 10 ∷ 8 ∷ 9 ∷ 8 ∷ 10 ∷ 9 ∷ 10 ∷ 11 ∷ 12 ∷ 11 ∷ 13 ∷ 11 ∷ 14 ∷ 11 ∷ 15 ∷ 12 ∷ 13 ∷ 12 ∷ 14 ∷ 12 ∷ 15 ∷ 13 ∷ 14 ∷ 13 ∷ 15 ∷ 14 ∷ 15 ∷ 16 ∷ 17 ∷ 16 ∷ 18 ∷ 16 ∷ 19 ∷ 16 ∷ 20 ∷ 17 ∷ 18 ∷ 17 ∷ 19 ∷ 17 ∷ 20 ∷ 18 ∷ 19 ∷ 18 ∷ 20 ∷ 19 ∷ 20 ∷ 21 ∷ 22 ∷ 21 ∷ 23 ∷ 21 ∷ 24 ∷ 21 ∷ 25 ∷ 22 ∷ 23 ∷ 22 ∷ 24 ∷ 22 ∷ 25 ∷ 23 ∷ 24 ∷ 23 ∷ 25 ∷ 24 ∷ 25 ∷ []);
+  labels = 7 ∷ 20 ∷ 6 ∷ 13 ∷ 19 ∷ 21 ∷ 5 ∷ 1 ∷ 2 ∷ 3 ∷ 4 ∷ 12 ∷ 8 ∷ 9 ∷ 10 ∷ 11 ∷ 18 ∷ 14 ∷ 15 ∷ 16 ∷ 17 ∷ 22 ∷ 23 ∷ 24 ∷ 25 ∷ 26 ∷ [];
+  turns = 160;
+  prohibited = 44;
+  first = 7;
+  free = [];
+  falling = [];
+  links-image = [];
+  full-image = [];
+  messages = [];
+  moves = 0;
+  look = 0;
+}
+
+abbrev pub worked : List Worked
+worked = link ∷ triangle ∷ path ∷ ring ∷ hub ∷ all-four ∷ blocks ∷ []

@@ -1,0 +1,75 @@
+-- Demand 2: for every good cabling. Each premise `Writes ..` or `Reads ..` is the promise of the call that the sentence names, whatever buffer was lent.
+use mathlib.Core.Path.{_≡_, sym, _∙_}
+use mathlib.Core.Bool.{Bool, true, false}
+use mathlib.Core.List.{List}
+use Prim.Native.Nat.{ℕ, _+_, _*_, _/_, _≤_}
+use native.Mathlib.Omega.{arith}
+use lib.ListN.{length, take}
+use lib.Seq.{ext-getD}
+use Rattle.rule.specs.Labels.{labelIn}
+use Rattle.cabling.specs.Cabling.{Cabling, cabled, Good}
+use Rattle.cabling.specs.Faults.{faultOf}
+use Rattle.fabric.specs.Fabric.{labelsFor, rowsFor}
+use Rattle.fabric.proofs.Labels.{labels-length, good-by-rule, good-labels-unique}
+use Rattle.fabric.proofs.Rows.{good-free-rows, good-falling-rows, free-rows-unique, falling-rows-unique}
+use Rattle.format.specs.Contents.{linksKinds, fullKinds}
+use Rattle.written.specs.declared.Written.{Written}
+use Rattle.written.specs.declared.Written.the-variants.{Bytes}
+use Rattle.written.specs.Written.{placed, Writes}
+use Rattle.image.specs.Image.{bodiesOf, imageOf, kindsOf, cablingIn}
+use Rattle.image.specs.Calls.{linksFault, Reads}
+use Rattle.image.specs.declared.Outcome.{Outcome}
+use Rattle.image.specs.declared.Outcome.the-variants.{Read}
+use Rattle.image.proofs.Pieces.{full-size}
+use Rattle.image.proofs.Images.{full-bodies}
+use Rattle.image.proofs.Calls.{never-refused, build-as-write, read-written, write-read}
+use Rattle.demands.specs.Rules.{ByTheRule, Built}
+
+module _ (c : Cabling) (g : Good c) where
+  -- what the rules give is by the rule, and nothing else is
+  pub rule-met : ByTheRule c (labelsFor c) (rowsFor c true) (rowsFor c false)
+  rule-met = record { size = labels-length c; by-rule = good-by-rule g; free-rows = good-free-rows g; falling-rows = good-falling-rows g }
+
+  pub rule-unique : {labels free falling : List ℕ} → ByTheRule c labels free falling → (labels ≡ labelsFor c) × (free ≡ rowsFor c true) × (falling ≡ rowsFor c false)
+  rule-unique {labels} {free} {falling} r =
+      let e : labels ≡ labelsFor c =
+      ext-getD 0 labels (labelsFor c) (r .size ∙ sym (labels-length c)) (λ v l. let s = r .size in good-labels-unique g (labelIn labels) (r .by-rule) v (omega arith)) in
+      (e, free-rows-unique g (rw e at (r .free-rows)), falling-rows-unique g (rw e at (r .falling-rows)))
+
+  module _ {before after : List ℕ} where
+    -- "Connected cabling inside the limits, given room, is never refused": build answers, with labels and entries by the rule
+    pub demand-2 : {answer : Written} → let b = imageOf linksKinds c in
+        28 + length (c .pairs) + c .nodes + 2 * (c .nodes * c .nodes) ≤ length before
+        → Writes (linksFault b) (imageOf fullKinds (cablingIn b)) before answer after → Built c before answer after
+    unfolding bodiesOf
+    demand-2 room w =
+        let s = full-size c in
+        let d = never-refused c g true (omega arith) (build-as-write c g .0 w) in
+        record {
+          image = imageOf fullKinds c;
+          answers = d .0;
+          leaves = d .1;
+          labels = labelsFor c;
+          free = rowsFor c true;
+          falling = rowsFor c false;
+          holds = full-bodies c g;
+          by-the-rule = rule-met;
+        }
+
+    -- reading what was written gives back the cabling and the kind: N, M, which image, and the pairs at the buffer's front
+    pub demand-2-read : (full : Bool) {answer : Outcome} → length (c .pairs) ≤ length before → Reads (imageOf (kindsOf full) c) before answer after
+        → (answer ≡ Read (c .nodes) (length (c .pairs) / 2) full) × (after ≡ placed (c .pairs) before)
+    demand-2-read = read-written c g
+
+    -- and write too answers, with either image
+    pub demand-2-write : (full : Bool) {answer : Written} → length (imageOf (kindsOf full) c) ≤ length before
+        → Writes (faultOf c) (imageOf (kindsOf full) c) before answer after
+        → (answer ≡ Bytes (length (imageOf (kindsOf full) c))) × (after ≡ placed (imageOf (kindsOf full) c) before)
+    demand-2-write = never-refused c g
+
+-- writing what was read gives back the same bytes: of any image that read accepts
+pub demand-2-back : (b before after : List ℕ) (n m : ℕ) (full : Bool) → Reads b before (Read n m full) after
+    → {room left : List ℕ} {answer : Written} → length b ≤ length room
+    → Writes (faultOf (cabled n (take (2 * m) after))) (imageOf (kindsOf full) (cabled n (take (2 * m) after))) room answer left
+    → (answer ≡ Bytes (length b)) × (left ≡ placed b room)
+demand-2-back = write-read

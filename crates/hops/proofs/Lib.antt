@@ -1,0 +1,2 @@
+pub mod Lookup
+pub mod Tight

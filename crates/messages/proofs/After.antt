@@ -1,0 +1,235 @@
+-- A move leads from a state to a state: taking a channel is the claims' taking, a delivery their finishing.
+use mathlib.Core.Path.{_≡_, refl, sym, _∙_, ap}
+use mathlib.Core.Bool.{Bool, false}
+use mathlib.Core.List.{List, _∷_}
+use Prim.Native.Nat.{ℕ, suc, _<_}
+use native.Mathlib.Omega.{arith}
+use lib.ListN.{length, getD, length-set}
+use Rattle.finite.specs.Truth.{_or_, non, same}
+use Rattle.finite.proofs.Truth.{bcase, false-non, true-non, non-true, or-l, or-false, same-eq, same-ne, eq-same, ne-same, same-refl}
+use Rattle.finite.proofs.Lists.{tabulate-length}
+use Rattle.lawful.specs.Entry.{after}
+use Rattle.lawful.proofs.Run.{Hop, rise, fall, rises-lt, falls-lt}
+use Rattle.claims.specs.Claims.{Progress, holds, taking, finishing, made}
+use Rattle.claims.proofs.Counting.{made-le}
+use Rattle.claims.proofs.Taking.{taken-here, taken-there, taking-done, taking-made, taking-other, taking-holds, taking-lawful}
+use Rattle.claims.proofs.Finishing.{done-here, done-there, finishing-made, finishing-other, finishing-free, finishing-lawful}
+use Rattle.messages.specs.Sizes.{maxMessages, maxPairs}
+use Rattle.messages.specs.declared.Record.{Record}
+use Rattle.messages.specs.Step.{head, target, isFalling, isDelivered, nextNode, nextChannel, holder, classAfter, counted, released, moved, arrived}
+use Rattle.messages.specs.Fresh.{sourceIn}
+use Rattle.messages.specs.Runs.{labelIn, Tabled, Listed, messagesIn, routeIn, itineraryIn}
+use Rattle.messages.specs.Tells.{Says}
+use Rattle.messages.proofs.Moves.{class-fall, class-free}
+use Rattle.messages.proofs.Changes.{released-here, released-other, moved-head, moved-heads, moved-class, moved-classes, moved-holder, moved-holders, arrived-mark, arrived-marks, arrived-holders}
+use Rattle.messages.proofs.State.{Kept, OnRoute, State, few-messages}
+use Rattle.messages.proofs.Hops.{more-to-take, next-hop, next-way, next-wanted, next-inside}
+use Rattle.messages.proofs.Total.{all-moves-small, all-moves-whole}
+
+-- ---- what no move changes
+
+module _ {n : ℕ} {labels free falling list : List ℕ} {r : Record} (m : ℕ) (kept : Kept n labels free falling list r) where
+  moved-kept : Kept n labels free falling list (moved r m)
+  unfolding moved
+  moved-kept = record {
+    nodes = kept .nodes;
+    messages = kept .messages;
+    labels-are = kept .labels-are;
+    free-are = kept .free-are;
+    falling-are = kept .falling-are;
+    targets = kept .targets;
+    heads-size = length-set (r .heads) m _ ∙ kept .heads-size;
+    classes-size = length-set (r .classes) m _ ∙ kept .classes-size;
+    delivered-size = kept .delivered-size;
+    holders-size = length-set (r .holders) _ _ ∙ kept .holders-size;
+  }
+
+  arrived-kept : Kept n labels free falling list (arrived r m)
+  unfolding arrived
+  arrived-kept = record {
+    nodes = kept .nodes;
+    messages = kept .messages;
+    labels-are = kept .labels-are;
+    free-are = kept .free-are;
+    falling-are = kept .falling-are;
+    targets = kept .targets;
+    heads-size = kept .heads-size;
+    classes-size = kept .classes-size;
+    delivered-size = length-set (r .delivered) m _ ∙ kept .delivered-size;
+    holders-size = tabulate-length maxPairs _;
+  }
+
+-- the class that the machine writes is the class after the hop
+hop-class : (edge : ℕ → ℕ → Bool) (labels : List ℕ) (r : Record) (m : ℕ) → r .labels ≡ labels → {c d : Bool} → c ≡ non (isFalling r m)
+    → Hop edge (labelIn labels) c (head r m) d (nextNode r m) → non (non (same (classAfter r m) 0)) ≡ d
+hop-class edge labels r m e p (rise h) =
+    let up = rises-lt edge (labelIn labels) _ _ h in
+    let a : labelIn (r .labels) (head r m) ≡ labelIn labels (head r m) = ap (λ (l : List ℕ). labelIn l (head r m)) e in
+    let b : labelIn (r .labels) (nextNode r m) ≡ labelIn labels (nextNode r m) = ap (λ (l : List ℕ). labelIn l (nextNode r m)) e in
+    ap (λ (x : ℕ). non (non (same x 0))) (class-free _ _ _ _ (non-true _ (sym p)) (omega arith)) ∙ true-non (false-non (same-refl 0))
+hop-class edge labels r m e p (fall h) =
+    let down = falls-lt edge (labelIn labels) _ _ h in
+    let a : labelIn (r .labels) (head r m) ≡ labelIn labels (head r m) = ap (λ (l : List ℕ). labelIn l (head r m)) e in
+    let b : labelIn (r .labels) (nextNode r m) ≡ labelIn labels (nextNode r m) = ap (λ (l : List ℕ). labelIn l (nextNode r m)) e in
+    ap (λ (x : ℕ). non (non (same x 0))) (class-fall _ _ _ _ (omega arith)) ∙ false-non (true-non (ne-same (λ q. omega arith)))
+
+module _ {n : ℕ} {edge : ℕ → ℕ → Bool} {labels free falling list : List ℕ} (tabled : Tabled n edge labels free falling) (listed : Listed n list)
+    {r : Record} {s : Progress} (state : State n edge labels free falling list r s) (m : ℕ) (low : m < messagesIn list) (fresh : s .done m ≡ false) where
+  abbrev k : ℕ
+  k = messagesIn list
+
+  abbrev itinerary : ℕ → List ℕ
+  itinerary = itineraryIn n edge labels list
+
+  abbrev OnIt : ℕ → ℕ → Bool → ℕ → Type 0
+  OnIt = OnRoute n edge labels list
+
+  -- message m has a place in every array of 256
+  placed : {size : ℕ} → size ≡ maxMessages → m < size
+  placed e = let b = few-messages tabled listed in omega arith
+
+  -- the count is not full
+  count-one : counted (r .moves) ≡ suc (made k s)
+  count-one =
+      let c = state .says .count in
+      let b = made-le k itinerary s (state .says .lawful) in
+      let w = all-moves-whole tabled listed in
+      let l = all-moves-small tabled listed in
+      omega arith
+
+  -- a fact of every message, from that of message m and those of the others
+  by-message {ℓ} : (P : ℕ → Type ℓ) → P m → ((c : ℕ) → (m ≡ c → ⊥) → P c) → (c : ℕ) → P c
+  by-message P here there c = bcase (same m c) (λ t. rw (sym (same-eq m c t)) here) (λ t. there c (same-ne m c t))
+
+  -- ---- it took its next channel
+
+  module _ (d : head r m ≡ target r m → ⊥) (free-channel : holder r (nextChannel r m) ≡ 0) where
+    abbrev ahead : Progress
+    ahead = taking s m
+
+    chosen : (c : ℕ) → nextChannel r m ≡ c → holder (moved r m) c ≡ suc m
+    chosen c e =
+        ap (holder (moved r m)) (sym e)
+        ∙ moved-holder r m (let a = next-inside tabled listed state m low d in let b = state .kept .holders-size in omega arith)
+
+    held-here : (c : ℕ) → same (holder (moved r m) c) (suc m) ≡ holds itinerary ahead m c
+    held-here c =
+        let w = next-wanted tabled listed state m low d in
+        bcase (same (nextChannel r m) c)
+        (λ t.
+        let e = same-eq _ _ t in
+        eq-same (chosen c e) ∙ sym (taking-holds itinerary s m c fresh ∙ or-l _ (eq-same (sym w ∙ e))))
+        (λ t.
+        let e = same-ne _ _ t in
+        ap (λ (h : ℕ). same h (suc m)) (moved-holders r m c e) ∙ state .says .held c m low
+        ∙ sym (taking-holds itinerary s m c fresh ∙ ap (λ (x : Bool). x or holds itinerary s m c) (ne-same (λ q. e (w ∙ q))) ∙ or-false _))
+
+    held-there : (b c : ℕ) → (m ≡ b → ⊥) → b < k → same (holder (moved r m) c) (suc b) ≡ holds itinerary ahead b c
+    held-there b c e l =
+        let old = state .says .held c b l ∙ sym (taking-other itinerary s m b c e) in
+        bcase (same (nextChannel r m) c)
+        (λ t.
+        let q = same-eq _ _ t in
+        let h = chosen c q in
+        let z : holder r c ≡ 0 = ap (holder r) (sym q) ∙ free-channel in
+        ne-same (λ x. e (omega arith)) ∙ sym (ne-same (λ x. omega arith)) ∙ old)
+        (λ t. ap (λ (h : ℕ). same h (suc b)) (moved-holders r m c (same-ne _ _ t)) ∙ old)
+
+    moved-at : (c : ℕ) → c < k → head (moved r m) c ≡ getD (sourceIn list c ∷ routeIn n edge labels list c) (ahead .taken c) 0
+    moved-at =
+        by-message (λ c. c < k → head (moved r m) c ≡ getD (sourceIn list c ∷ routeIn n edge labels list c) (ahead .taken c) 0)
+        (λ l. rw (taken-here s m) (moved-head r m (placed (state .kept .heads-size)) ∙ next-way tabled listed state m low d .at))
+        (λ c e l. rw (taken-there s m c e) (moved-heads r m c e ∙ state .says .at c l))
+
+    moved-done : (c : ℕ) → c < k → isDelivered (moved r m) c ≡ ahead .done c
+    unfolding moved isDelivered
+    moved-done c l = state .says .done c l ∙ sym (taking-done s m c)
+
+    moved-count : moved r m .moves ≡ made k ahead
+    unfolding moved
+    moved-count = count-one ∙ sym (taking-made s m k low)
+
+    moved-says : Says n edge labels list (moved r m) ahead
+    moved-says = record {
+      lawful = taking-lawful itinerary s m k (state .says .lawful) fresh (more-to-take tabled listed state m low d);
+      at = moved-at;
+      done = moved-done;
+      held = λ c b. by-message (λ b. b < k → same (holder (moved r m) c) (suc b) ≡ holds itinerary ahead b c) (λ l. held-here c) (λ b e. held-there b c e) b;
+      owners = λ c.
+          bcase (same (nextChannel r m) c) (λ t. let h = chosen c (same-eq _ _ t) in omega arith)
+          (λ t. let h = moved-holders r m c (same-ne _ _ t) in let o = state .says .owners c in omega arith);
+      count = moved-count;
+    }
+
+    moved-class-is : non (isFalling (moved r m) m) ≡ after edge (labelIn labels) (non (isFalling r m)) (head r m) (nextNode r m)
+    moved-class-is =
+        ap non (moved-class r m (placed (state .kept .classes-size)))
+        ∙ hop-class edge labels r m (state .kept .labels-are) refl (next-hop tabled listed state m low d)
+
+    moved-way : (c : ℕ) → c < k → OnIt c (ahead .taken c) (non (isFalling (moved r m) c)) (head (moved r m) c)
+    moved-way =
+        by-message (λ c. c < k → OnIt c (ahead .taken c) (non (isFalling (moved r m) c)) (head (moved r m) c))
+        (λ l.
+        rw (taken-here s m, moved-class-is, moved-head r m (placed (state .kept .heads-size)))
+        (next-way tabled listed state m low d))
+        (λ c e l. rw (taken-there s m c e, moved-classes r m c e, moved-heads r m c e) (state .way c l))
+
+    pub moved-state : State n edge labels free falling list (moved r m) (taking s m)
+    moved-state = record { says = moved-says; kept = moved-kept m (state .kept); way = moved-way }
+
+  -- ---- it is delivered
+
+  module _ (last : s .taken m ≡ length (itineraryIn n edge labels list m)) where
+    abbrev ended : Progress
+    ended = finishing s m
+
+    left-holder : (c : ℕ) → holder (arrived r m) c ≡ released (suc m) (holder r c)
+    left-holder = arrived-holders r m (state .kept .holders-size)
+
+    -- what it held is free, the rest as it was
+    left-case {ℓ} : {A : Type ℓ} (c : ℕ) → (holder r c ≡ suc m → holder (arrived r m) c ≡ 0 → A)
+        → ((holder r c ≡ suc m → ⊥) → holder (arrived r m) c ≡ holder r c → A) → A
+    left-case c f g =
+        bcase (same (holder r c) (suc m))
+        (λ t. let e = same-eq _ _ t in f e (left-holder c ∙ released-here (holder r c) (suc m) e))
+        (λ t. let e = same-ne _ _ t in g e (left-holder c ∙ released-other (holder r c) (suc m) e))
+
+    gone-here : (c : ℕ) → same (holder (arrived r m) c) (suc m) ≡ holds itinerary ended m c
+    gone-here c =
+        left-case c (λ e z. ne-same (λ q. omega arith)) (λ e z. ne-same (λ q. e (sym z ∙ q))) ∙ sym (finishing-free itinerary s m c)
+
+    gone-there : (b c : ℕ) → (m ≡ b → ⊥) → b < k → same (holder (arrived r m) c) (suc b) ≡ holds itinerary ended b c
+    gone-there b c e l =
+        left-case c (λ h z. ne-same (λ q. omega arith) ∙ sym (ne-same (λ q. e (omega arith)))) (λ h z. ap (λ (x : ℕ). same x (suc b)) z)
+        ∙ state .says .held c b l ∙ sym (finishing-other itinerary s m b c e)
+
+    arrived-at : (c : ℕ) → c < k → head (arrived r m) c ≡ getD (sourceIn list c ∷ routeIn n edge labels list c) (ended .taken c) 0
+    unfolding arrived finishing
+    arrived-at = state .says .at
+
+    arrived-done : (c : ℕ) → c < k → isDelivered (arrived r m) c ≡ ended .done c
+    arrived-done =
+        by-message (λ c. c < k → isDelivered (arrived r m) c ≡ ended .done c)
+        (λ l. arrived-mark r m (placed (state .kept .delivered-size)) ∙ sym (done-here s m))
+        (λ c e l. arrived-marks r m c e ∙ state .says .done c l ∙ sym (done-there s m c e))
+
+    arrived-count : arrived r m .moves ≡ made k ended
+    unfolding arrived
+    arrived-count = count-one ∙ sym (finishing-made s m k low fresh)
+
+    arrived-says : Says n edge labels list (arrived r m) ended
+    arrived-says = record {
+      lawful = finishing-lawful itinerary s m k (state .says .lawful) last;
+      at = arrived-at;
+      done = arrived-done;
+      held = λ c b. by-message (λ b. b < k → same (holder (arrived r m) c) (suc b) ≡ holds itinerary ended b c) (λ l. gone-here c) (λ b e. gone-there b c e) b;
+      owners = λ c. let o = state .says .owners c in left-case c (λ e z. omega arith) (λ e z. omega arith);
+      count = arrived-count;
+    }
+
+    arrived-way : (c : ℕ) → c < k → OnIt c (ended .taken c) (non (isFalling (arrived r m) c)) (head (arrived r m) c)
+    unfolding arrived finishing isFalling
+    arrived-way = state .way
+
+    pub arrived-state : State n edge labels free falling list (arrived r m) (finishing s m)
+    arrived-state = record { says = arrived-says; kept = arrived-kept m (state .kept); way = arrived-way }

@@ -1,0 +1,113 @@
+-- What each answer tells: "it takes that one channel", blocked "by that message's number", "it is delivered and gives back all its channels", "no other
+-- answer changes the record".
+use mathlib.Core.Path.{_≡_, refl, sym, _∙_, ap}
+use mathlib.Core.Bool.{Bool, false}
+use mathlib.Core.List.{List}
+use Prim.Native.Nat.{ℕ, suc, _-_, _<_}
+use native.Mathlib.Omega.{arith}
+use Rattle.finite.proofs.Truth.{no-tf, same-eq}
+use Rattle.claims.specs.Claims.{Progress, holds, wanted, Exclusive}
+use Rattle.claims.proofs.Holding.{holds-held}
+use Rattle.claims.proofs.Waiting.{not-own}
+use Rattle.messages.specs.declared.Record.{Record}
+use Rattle.messages.specs.declared.Answer.the-variants.{Moved, Blocked}
+use Rattle.messages.specs.declared.Stepped.{Stepped}
+use Rattle.messages.specs.Step.{head, target, isDelivered, nextChannel, holder, moved, arrived, stepOf}
+use Rattle.messages.specs.Runs.{labelIn, Tabled, Listed, messagesIn, itineraryIn, Reached, successful}
+use Rattle.messages.specs.Tells.{Says, BlockedBy, Took, Arrived, Tells}
+use Rattle.messages.proofs.Moves.{Case, unknown, already, arrives, waits, moves, step-case}
+use Rattle.messages.proofs.Channels.{channelRank}
+use Rattle.messages.proofs.Changes.{released-here, released-other, moved-holder, moved-holders, arrived-holders}
+use Rattle.messages.proofs.State.{State}
+use Rattle.messages.proofs.Hops.{all-taken, more-to-take, next-wanted, next-inside}
+use Rattle.messages.proofs.Total.{channels-rising}
+use Rattle.messages.proofs.Tried.{known, unknown-high, not-done, holder-low, holder-holds}
+use Rattle.messages.proofs.After.{moved-state, arrived-state}
+use Rattle.messages.proofs.Reached.{reached-state}
+
+-- "no other answer changes the record", whatever record it is
+pub unchanged : (r : Record) (m : ℕ) → successful (stepOf r m .answer) ≡ false → stepOf r m .«record» ≡ r
+unchanged r m = go (step-case r m)
+  where
+    go : {x : Stepped} → Case r m x → successful (x .answer) ≡ false → x .«record» ≡ r
+    go (unknown t) h = refl
+    go (already l u) h = refl
+    go (arrives l u e) h = no-tf refl h
+    go (waits l u d b) h = refl
+    go (moves l u d z) h = no-tf refl h
+
+-- "one message to a directed link": a channel has one holder in the record
+pub one-message : {n : ℕ} {edge : ℕ → ℕ → Bool} {labels list : List ℕ} {r : Record} {s : Progress} → Says n edge labels list r s
+    → Exclusive (messagesIn list) (itineraryIn n edge labels list) s
+one-message says a b c i j x y =
+    let p = same-eq _ _ (says .held c a i ∙ x) in
+    let q = same-eq _ _ (says .held c b j ∙ y) in
+    omega arith
+
+module _ {n : ℕ} {edge : ℕ → ℕ → Bool} {labels free falling list : List ℕ} (tabled : Tabled n edge labels free falling) (listed : Listed n list) where
+  abbrev k : ℕ
+  k = messagesIn list
+
+  abbrev itinerary : ℕ → List ℕ
+  itinerary = itineraryIn n edge labels list
+
+  module _ {r : Record} {s : Progress} (state : State n edge labels free falling list r s) (m : ℕ) (low : m < k) (u : isDelivered r m ≡ false) where
+    -- a message that waits, waits for another one
+    waits-for : (head r m ≡ target r m → ⊥) → (b : ℕ) → b < k → holder r (nextChannel r m) ≡ suc b → BlockedBy k r m b
+    waits-for d b l e =
+        let h = holder-holds tabled listed state m low d b l e in
+        let own = not-own k itinerary (channelRank n (labelIn labels)) s (state .says .lawful) (channels-rising tabled listed) m low (more-to-take tabled listed state m low d) in
+        record {
+          low = l;
+          other = λ q. no-tf h (ap (λ (x : ℕ). holds itinerary s x (wanted itinerary s m)) q ∙ own);
+          undelivered = state .says .done b l ∙ holds-held itinerary s b _ h .not-done;
+          holds-it = e;
+        }
+
+    takes-one : (head r m ≡ target r m → ⊥) → holder r (nextChannel r m) ≡ 0 → Took n edge labels list r m (moved r m)
+    takes-one d z = record {
+      progress = s;
+      before = state .says;
+      more = more-to-take tabled listed state m low d;
+      one = rw (sym (next-wanted tabled listed state m low d)) (record {
+        free = z;
+        taken = moved-holder r m (let a = next-inside tabled listed state m low d in let b = state .kept .holders-size in omega arith);
+        others = moved-holders r m;
+      });
+      then = moved-state tabled listed state m low (not-done tabled listed state m low u) d z .says;
+    }
+
+    gives-back : head r m ≡ target r m → Arrived n edge labels list r m (arrived r m)
+    gives-back e =
+        let last = all-taken tabled listed state m low e in
+        let h = arrived-holders r m (state .kept .holders-size) in
+        record {
+          progress = s;
+          before = state .says;
+          all = last;
+          back = record {
+            own = λ c q. h c ∙ released-here (holder r c) (suc m) q;
+            others = λ c q. h c ∙ released-other (holder r c) (suc m) q;
+          };
+          then = arrived-state tabled listed state m low (not-done tabled listed state m low u) last .says;
+        }
+
+  case-tells : {r : Record} {s : Progress} → State n edge labels free falling list r s → (m : ℕ) {x : Stepped} → Case r m x
+      → Tells n edge labels list r m (x .«record») (x .answer)
+  case-tells state m (unknown t) = (unknown-high tabled listed state m t, refl, refl)
+  case-tells state m (already l u) = (known tabled listed state m l, u, refl)
+  case-tells state m (arrives l u e) = let low = known tabled listed state m l in (low, u, gives-back state m low u e)
+  case-tells {r} state m (waits l u d h) =
+      let low = known tabled listed state m l in
+      (low, u, waits-for state m low u d (holder r (nextChannel r m) - 1) (holder-low tabled listed state m h) (omega arith), refl)
+  case-tells state m (moves l u d z) = let low = known tabled listed state m l in (low, u, takes-one state m low u d z)
+
+  module _ {r : Record} (run : Reached n labels free falling list r) (m : ℕ) where
+    pub each-answer : Tells n edge labels list r m (stepOf r m .«record») (stepOf r m .answer)
+    each-answer = case-tells (reached-state tabled listed run .1) m (step-case r m)
+
+    pub one-channel : stepOf r m .answer ≡ Moved → Took n edge labels list r m (stepOf r m .«record»)
+    one-channel e = (rw e at each-answer) .2
+
+    pub blocked-by : (b : ℕ) → stepOf r m .answer ≡ Blocked b → BlockedBy k r m b
+    blocked-by b e = (rw e at each-answer) .2

@@ -1,0 +1,13 @@
+pub mod Moves
+pub mod Channels
+pub mod Way
+pub mod Changes
+pub mod State
+pub mod Hops
+pub mod Total
+pub mod Tried
+pub mod After
+pub mod Reached
+pub mod Answers
+pub mod Drain
+pub mod Ready

@@ -1,0 +1,74 @@
+-- A message is ready exactly when a move of it succeeds; while some message of a run is undelivered one of them is ready.
+use mathlib.Core.Path.{_≡_, sym, _∙_}
+use mathlib.Core.Bool.{Bool, true, false}
+use mathlib.Core.List.{List}
+use mathlib.Core.Logic.{⊎-elim}
+use Prim.Native.Nat.{ℕ, _<_}
+use native.Mathlib.Omega.{arith}
+use Rattle.finite.specs.Truth.{_&_, _or_, non, same}
+use Rattle.finite.specs.Search.{Some}
+use Rattle.finite.proofs.Truth.{no-tf, both, non-false, eq-same, ne-same, lt-below}
+use Rattle.finite.proofs.Search.{find, every-all, all-every}
+use Rattle.messages.specs.Sizes.{maxMessages}
+use Rattle.messages.specs.declared.Record.{Record}
+use Rattle.messages.specs.declared.Stepped.{Stepped}
+use Rattle.messages.specs.Step.{head, target, isDelivered, nextChannel, holder, stepOf}
+use Rattle.messages.specs.Runs.{Tabled, Listed, messagesIn, Reached, successful}
+use Rattle.messages.specs.Ready.{messagesOf, ready, allDelivered}
+use Rattle.messages.proofs.Moves.{Case, unknown, already, arrives, waits, moves, step-case}
+use Rattle.messages.proofs.State.{few-messages}
+use Rattle.messages.proofs.Reached.{reached-state}
+use Rattle.messages.proofs.Drain.{progress}
+
+module _ (r : Record) (m : ℕ) where
+  pub ready-never : isDelivered r m ≡ true → false ≡ ready r m
+  unfolding ready non _&_
+  ready-never d = rw (d, ready)
+
+  module _ (d : isDelivered r m ≡ false) where
+    pub ready-there : same (head r m) (target r m) ≡ true → true ≡ ready r m
+    unfolding ready non _&_ _or_
+    ready-there e = rw (d, ready, e)
+
+    pub ready-next : same (head r m) (target r m) ≡ false → same (holder r (nextChannel r m)) 0 ≡ ready r m
+    unfolding ready non _&_ _or_
+    ready-next e = rw (d, ready, e)
+
+  -- ready: a move of it is successful
+  pub ready-moves : m < messagesOf r → ready r m ≡ successful (stepOf r m .answer)
+  ready-moves l = go (step-case r m)
+    where
+      go : {x : Stepped} → Case r m x → ready r m ≡ successful (x .answer)
+      go (unknown t) = no-tf (both (lt-below {a = m} {b = r .messages} (omega arith)) (lt-below {a = m} {b = maxMessages} (omega arith))) t
+      go (already k u) = sym (ready-never u)
+      go (arrives k u e) = sym (ready-there u (eq-same e))
+      go (waits k u d b) = sym (ready-next u (ne-same d)) ∙ ne-same b
+      go (moves k u d z) = sym (ready-next u (ne-same d)) ∙ eq-same z
+
+-- all are delivered, or one is not
+pub every-delivered : (r : Record) → ((m : ℕ) → m < messagesOf r → isDelivered r m ≡ true) → true ≡ allDelivered r
+unfolding allDelivered
+every-delivered r h = sym (every-all _ _ h)
+
+pub delivered-every : (r : Record) → allDelivered r ≡ true → (m : ℕ) → m < messagesOf r → isDelivered r m ≡ true
+unfolding allDelivered
+delivered-every r h = all-every _ _ h
+
+-- the records of a run have the messages of the list, and while one is undelivered one is ready
+module _ {n : ℕ} {edge : ℕ → ℕ → Bool} {labels free falling list : List ℕ} (tabled : Tabled n edge labels free falling) (listed : Listed n list)
+    {r : Record} (run : Reached n labels free falling list r) where
+  pub messages-listed : messagesOf r ≡ messagesIn list
+  messages-listed = let e = reached-state tabled listed run .1 .kept .messages in let f = few-messages tabled listed in omega arith
+
+  pub one-ready : allDelivered r ≡ false → Some (messagesOf r) (ready r)
+  one-ready h =
+      ⊎-elim
+      (λ s.
+      let e = messages-listed in
+      let k = s .low in
+      let p = progress tabled listed run (record { at = s .at; low = omega arith; fact = s .fact }) in
+      let l = p .low in
+      let b : p .at < messagesOf r = omega arith in
+      record { at = p .at; low = b; fact = ready-moves r (p .at) b ∙ p .fact })
+      (λ none. no-tf (sym (every-delivered r (λ m l. non-false _ (none m l)))) h)
+      (find (messagesOf r) (λ m. non (isDelivered r m)))

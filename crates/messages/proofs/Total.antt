@@ -1,0 +1,80 @@
+-- The sum of (hops + 1): each route is a shortest lawful path, so it is that of any such paths; it is the whole of the claims, and small.
+use mathlib.Core.Path.{_≡_, sym, ap}
+use mathlib.Core.Bool.{Bool}
+use mathlib.Core.List.{List}
+use Prim.Native.Nat.{ℕ, zero, suc, _+_, _*_, _≤_, _<_}
+use native.Mathlib.Nat.{le-step, lt-suc-self, mul-suc}
+use native.Mathlib.Omega.{arith}
+use lib.ListN.{length, getD}
+use Rattle.finite.specs.Sum.{sumTo}
+use Rattle.finite.proofs.Sum.{sum-none, sum-more, sum-cong}
+use Rattle.lawful.specs.Path.{LawfulTo, Shortest}
+use Rattle.lawful.proofs.Routes.{climbing-route}
+use Rattle.lawful.proofs.Few.{few-on-route}
+use Rattle.nodes.specs.Limits.{maxNodes}
+use Rattle.claims.specs.Claims.{Rising, whole}
+use Rattle.messages.specs.Sizes.{maxMessages}
+use Rattle.messages.specs.Fresh.{sourceIn, targetIn}
+use Rattle.messages.specs.Runs.{labelIn, Tabled, Listed, messagesIn, routeIn, itineraryIn, allMoves}
+use Rattle.messages.proofs.Channels.{channels-length, channelRank, channels-low, channels-rise}
+use Rattle.messages.proofs.State.{few-messages, source-low, target-low}
+
+-- a sum of n terms of at most b each
+pub sum-within : (n b : ℕ) (f : ℕ → ℕ) → ((v : ℕ) → v < n → f v ≤ b) → sumTo n f ≤ b * n
+sum-within zero b f h = let e = sum-none f in omega arith
+sum-within (suc n) b f h =
+    let i = sum-within n b f (λ v l. h v (le-step l)) in
+    let t = h n (lt-suc-self n) in
+    let e = sum-more n f in
+    let m = mul-suc b n in
+    omega arith
+
+module _ {n : ℕ} {edge : ℕ → ℕ → Bool} {labels free falling list : List ℕ} (tabled : Tabled n edge labels free falling) (listed : Listed n list) where
+  module _ (m : ℕ) (low : m < messagesIn list) where
+    -- a message's route is a shortest lawful path from its source to its destination, and has fewer hops than there are nodes
+    pub hops-shortest : Shortest (LawfulTo edge (labelIn labels) (sourceIn list m) (targetIn list m)) (routeIn n edge labels list m)
+    unfolding routeIn
+    hops-shortest =
+        climbing-route n edge (labelIn labels) (tabled .network) (tabled .climbing) (sourceIn list m) (targetIn list m) (source-low tabled listed m low) (target-low tabled listed m low) .shortest
+
+    hops-few : length (routeIn n edge labels list m) < n
+    unfolding routeIn
+    hops-few =
+        few-on-route n edge (labelIn labels) (tabled .network) (tabled .climbing) (sourceIn list m) (targetIn list m) (source-low tabled listed m low) (target-low tabled listed m low)
+
+  -- "the sum of (shortest lawful hops + 1)", over any shortest lawful paths
+  pub sum-of-shortest : (paths : ℕ → List ℕ)
+      → ((m : ℕ) → m < messagesIn list → Shortest (LawfulTo edge (labelIn labels) (sourceIn list m) (targetIn list m)) (paths m))
+      → allMoves n edge labels list ≡ sumTo (messagesIn list) (λ m. length (paths m) + 1)
+  unfolding allMoves
+  sum-of-shortest paths shortest =
+      sum-cong (messagesIn list) _ _
+      (λ m l.
+      let a = hops-shortest m l .least (paths m) (shortest m l .is) in
+      let b = shortest m l .least (routeIn n edge labels list m) (hops-shortest m l .is) in
+      omega arith)
+
+  pub all-moves-small : allMoves n edge labels list ≤ maxNodes * maxMessages
+  unfolding allMoves
+  all-moves-small =
+      let b = sum-within (messagesIn list) maxNodes (λ m. length (routeIn n edge labels list m) + 1) (λ m l. let h = hops-few m l in omega arith) in
+      let k = few-messages tabled listed in
+      omega arith
+
+  pub all-moves-whole : allMoves n edge labels list ≡ whole (messagesIn list) (itineraryIn n edge labels list)
+  unfolding allMoves whole itineraryIn
+  all-moves-whole = sum-cong (messagesIn list) _ _ (λ m l. ap (λ (x : ℕ). x + 1) (sym (channels-length (sourceIn list m) (routeIn n edge labels list m))))
+
+  -- ranks rise along each message's channels
+  pub channels-rising : Rising (messagesIn list) (itineraryIn n edge labels list) (channelRank n (labelIn labels))
+  unfolding itineraryIn
+  channels-rising m low i j =
+      channels-rise n edge (labelIn labels) (tabled .many) (tabled .network .inside) (sourceIn list m) (targetIn list m) (routeIn n edge labels list m)
+      (hops-shortest m low .is) (tabled .climbing .distinct) (tabled .highest) i j
+
+  -- and each is between two of the n nodes
+  pub channels-inside : (m : ℕ) → m < messagesIn list → (i : ℕ) → i < length (itineraryIn n edge labels list m) → getD (itineraryIn n edge labels list m) i 0 < maxNodes * n
+  unfolding itineraryIn
+  channels-inside m low =
+      channels-low n edge (labelIn labels) (tabled .many) (tabled .network .inside) (sourceIn list m) (targetIn list m) (routeIn n edge labels list m)
+      (hops-shortest m low .is) (source-low tabled listed m low)

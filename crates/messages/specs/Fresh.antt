@@ -1,0 +1,38 @@
+-- The record that a fresh start fills.
+use mathlib.Core.List.{List, []}
+use Prim.Native.Nat.{ℕ, _+_, _*_, _/_, min}
+use lib.ListN.{length, getD, replicate}
+use Rattle.finite.specs.Lists.{tabulate}
+use Rattle.nodes.specs.Limits.{maxNodes}
+use Rattle.messages.specs.Sizes.{maxMessages, maxPairs}
+use Rattle.messages.specs.declared.Record.{Record}
+
+-- byte 2 m of the list is the source of message m, byte 2 m + 1 its destination
+abbrev pub sourceIn : List ℕ → ℕ → ℕ
+sourceIn list m = getD list (2 * m) 0
+
+abbrev pub targetIn : List ℕ → ℕ → ℕ
+targetIn list m = getD list (2 * m + 1) 0
+
+unfoldable pub zeros : ℕ → List ℕ
+zeros n = replicate n 0
+
+-- every message stands free at its source, nothing is delivered, no channel is held, and no move is made
+unfoldable pub begunOf : ℕ → List ℕ → List ℕ → List ℕ → List ℕ → Record
+begunOf n labels free falling list = record {
+  nodes = n;
+  messages = min (length list / 2) maxMessages;
+  moves = 0;
+  labels = labels;
+  free = free;
+  falling = falling;
+  targets = tabulate maxMessages (targetIn list);
+  heads = tabulate maxMessages (sourceIn list);
+  classes = zeros maxMessages;
+  delivered = zeros maxMessages;
+  holders = zeros maxPairs;
+}
+
+-- a record to start with: no nodes, no messages
+abbrev pub blankRecord : Record
+blankRecord = begunOf 0 (replicate maxNodes 0) (replicate maxPairs 0) (replicate maxPairs 0) []

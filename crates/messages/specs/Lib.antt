@@ -1,0 +1,6 @@
+pub mod Sizes
+pub mod Step
+pub mod Fresh
+pub mod Runs
+pub mod Tells
+pub mod Ready

@@ -1,0 +1,69 @@
+-- Runs of the machine: what a start guarantees, the records that moves lead to from there, and the sum of (hops + 1).
+use mathlib.Core.Path.{_≡_}
+use mathlib.Core.Bool.{Bool, true, false}
+use mathlib.Core.List.{List, [], _∷_}
+use Prim.Native.Nat.{ℕ, _+_, _*_, _/_, _≤_, _<_}
+use lib.ListN.{length, getD}
+use Rattle.finite.specs.Sum.{sumTo, when}
+use Rattle.graph.specs.Network.{Network}
+use Rattle.lawful.specs.Turn.{Climbing}
+use Rattle.lawful.specs.Entry.{entry, routeOf}
+use Rattle.nodes.specs.Limits.{maxNodes}
+use Rattle.messages.specs.declared.Record.{Record}
+use Rattle.messages.specs.declared.Answer.{Answer}
+use Rattle.messages.specs.declared.Answer.the-variants.{Already, Moved, Blocked, Delivered, Refused}
+use Rattle.messages.specs.Step.{channel, stepOf}
+use Rattle.messages.specs.Fresh.{sourceIn, targetIn, begunOf}
+
+abbrev pub labelIn : List ℕ → ℕ → ℕ
+labelIn labels v = getD labels v 0
+
+-- a network of n nodes with a climbing labelling, and the two tables of its entries, row by row
+pub record Tabled (n : ℕ) (edge : ℕ → ℕ → Bool) (labels free falling : List ℕ) : Type 0 where
+  pub many : n ≤ maxNodes
+  pub network : Network n edge
+  pub climbing : Climbing n edge (labelIn labels)
+  pub highest : (v : ℕ) → v < n → labelIn labels v ≤ n
+  pub free-rows : (v t : ℕ) → v < n → t < n → getD free (v * n + t) 0 ≡ entry n edge (labelIn labels) t true v
+  pub falling-rows : (v t : ℕ) → v < n → t < n → getD falling (v * n + t) 0 ≡ entry n edge (labelIn labels) t false v
+
+-- 01: "a list of byte pairs (source, destination), 0 to 256 of them", each a node
+pub record Listed (n : ℕ) (list : List ℕ) : Type 0 where
+  pub short : length list ≤ 512
+  pub nodes : (i : ℕ) → i < length list → getD list i 0 < n
+
+unfoldable pub messagesIn : List ℕ → ℕ
+messagesIn list = length list / 2
+
+-- the nodes after message m's source on its table's route, and the channels between them
+unfoldable pub routeIn : ℕ → (ℕ → ℕ → Bool) → List ℕ → List ℕ → ℕ → List ℕ
+routeIn n edge labels list m = routeOf n edge (labelIn labels) (sourceIn list m) (targetIn list m)
+
+abbrev pub channelsOf : ℕ → List ℕ → List ℕ
+channelsOf v [] = []
+channelsOf v (u ∷ l) = channel v u ∷ channelsOf u l
+
+unfoldable pub itineraryIn : ℕ → (ℕ → ℕ → Bool) → List ℕ → List ℕ → ℕ → List ℕ
+itineraryIn n edge labels list m = channelsOf (sourceIn list m) (routeIn n edge labels list m)
+
+-- "the sum of (shortest lawful hops + 1)"
+unfoldable pub allMoves : ℕ → (ℕ → ℕ → Bool) → List ℕ → List ℕ → ℕ
+allMoves n edge labels list = sumTo (messagesIn list) (λ m. length (routeIn n edge labels list m) + 1)
+
+-- the records that a start and moves of any messages in any order lead to
+pub data Reached (n : ℕ) (labels free falling list : List ℕ) : Record → Type 0 where
+  fresh : Reached n labels free falling list (begunOf n labels free falling list)
+  move : {r : Record} (m : ℕ) → Reached n labels free falling list r → Reached n labels free falling list (stepOf r m .«record»)
+
+-- "Moved and delivered count one successful move each"
+abbrev pub successful : Answer → Bool
+successful Already = false
+successful Moved = true
+successful (Blocked b) = false
+successful Delivered = true
+successful (Refused f) = false
+
+-- the successful moves of a run
+abbrev pub successes : {n : ℕ} {labels free falling list : List ℕ} {r : Record} → Reached n labels free falling list r → ℕ
+successes fresh = 0
+successes (move {r = r} m run) = successes run + when (successful (stepOf r m .answer)) 1

@@ -1,0 +1,71 @@
+-- How a record says how far each message is and what it holds, and what each answer to a move tells.
+use mathlib.Core.Path.{_≡_}
+use mathlib.Core.Bool.{Bool, true, false}
+use mathlib.Core.List.{List, _∷_}
+use Prim.Native.Nat.{ℕ, suc, _≤_, _<_}
+use lib.ListN.{length, getD}
+use Rattle.finite.specs.Truth.{same}
+use Rattle.refusal.specs.declared.Refusal.the-variants.{Unknown}
+use Rattle.claims.specs.Claims.{Progress, holds, wanted, taking, finishing, Lawful, made}
+use Rattle.messages.specs.declared.Record.{Record}
+use Rattle.messages.specs.declared.Answer.{Answer}
+use Rattle.messages.specs.declared.Answer.the-variants.{Already, Moved, Blocked, Delivered, Refused}
+use Rattle.messages.specs.Step.{head, isDelivered, nextChannel, holder}
+use Rattle.messages.specs.Fresh.{sourceIn}
+use Rattle.messages.specs.Runs.{messagesIn, routeIn, itineraryIn}
+
+-- the record says that message m is `taken m` hops along its route and whether it is delivered, and holds just the channels of those hops until it is;
+-- a channel's holder is 0 or one of the messages plus 1; and the moves are those made
+pub record Says (n : ℕ) (edge : ℕ → ℕ → Bool) (labels list : List ℕ) (r : Record) (s : Progress) : Type 0 where
+  pub lawful : Lawful (messagesIn list) (itineraryIn n edge labels list) s
+  pub at : (m : ℕ) → m < messagesIn list → head r m ≡ getD (sourceIn list m ∷ routeIn n edge labels list m) (s .taken m) 0
+  pub done : (m : ℕ) → m < messagesIn list → isDelivered r m ≡ s .done m
+  pub held : (c m : ℕ) → m < messagesIn list → same (holder r c) (suc m) ≡ holds (itineraryIn n edge labels list) s m c
+  pub owners : (c : ℕ) → holder r c ≤ messagesIn list
+  pub count : r .moves ≡ made (messagesIn list) s
+
+-- every channel from `span` on is free
+pub record FreeFrom (span : ℕ) (holders : List ℕ) : Type 0 where
+  pub none : (c : ℕ) → span ≤ c → getD holders c 0 ≡ 0
+
+-- a move takes the channel c for message m: just that one changes its holder, and nobody held it
+pub record TakesOne (r after : Record) (m c : ℕ) : Type 0 where
+  pub free : holder r c ≡ 0
+  pub taken : holder after c ≡ suc m
+  pub others : (d : ℕ) → (c ≡ d → ⊥) → holder after d ≡ holder r d
+
+-- a move gives back what message m holds: those channels are free, the others as they were
+pub record GivesBack (r after : Record) (m : ℕ) : Type 0 where
+  pub own : (c : ℕ) → holder r c ≡ suc m → holder after c ≡ 0
+  pub others : (c : ℕ) → (holder r c ≡ suc m → ⊥) → holder after c ≡ holder r c
+
+-- another message b, one of the k and not delivered, holds the channel that m wants next
+pub record BlockedBy (k : ℕ) (r : Record) (m b : ℕ) : Type 0 where
+  pub low : b < k
+  pub other : b ≡ m → ⊥
+  pub undelivered : isDelivered r b ≡ false
+  pub holds-it : holder r (nextChannel r m) ≡ suc b
+
+-- message m had hops to go and took the next channel of its route
+pub record Took (n : ℕ) (edge : ℕ → ℕ → Bool) (labels list : List ℕ) (r : Record) (m : ℕ) (after : Record) : Type 0 where
+  pub progress : Progress
+  pub before : Says n edge labels list r progress
+  pub more : progress .taken m < length (itineraryIn n edge labels list m)
+  pub one : TakesOne r after m (wanted (itineraryIn n edge labels list) progress m)
+  pub then : Says n edge labels list after (taking progress m)
+
+-- message m had taken all the channels of its route and gave them back
+pub record Arrived (n : ℕ) (edge : ℕ → ℕ → Bool) (labels list : List ℕ) (r : Record) (m : ℕ) (after : Record) : Type 0 where
+  pub progress : Progress
+  pub before : Says n edge labels list r progress
+  pub all : progress .taken m ≡ length (itineraryIn n edge labels list m)
+  pub back : GivesBack r after m
+  pub then : Says n edge labels list after (finishing progress m)
+
+-- what each answer to a move of message m tells of the record and of the one after it
+abbrev pub Tells : ℕ → (ℕ → ℕ → Bool) → List ℕ → List ℕ → Record → ℕ → Record → Answer → Type 0
+Tells n edge labels list r m after Already = (m < messagesIn list) × (isDelivered r m ≡ true) × (after ≡ r)
+Tells n edge labels list r m after Moved = (m < messagesIn list) × (isDelivered r m ≡ false) × Took n edge labels list r m after
+Tells n edge labels list r m after (Blocked b) = (m < messagesIn list) × (isDelivered r m ≡ false) × BlockedBy (messagesIn list) r m b × (after ≡ r)
+Tells n edge labels list r m after Delivered = (m < messagesIn list) × (isDelivered r m ≡ false) × Arrived n edge labels list r m after
+Tells n edge labels list r m after (Refused f) = (messagesIn list ≤ m) × (f ≡ Unknown 0) × (after ≡ r)

@@ -1,0 +1,40 @@
+-- A loop over the members of a word passes the lowest one: it was left, it is left no more, and every other is as it was.
+use mathlib.Core.Path.{_≡_, refl, sym, _∙_, ap}
+use mathlib.Core.Bool.{true, false}
+use Prim.Native.Nat.{ℕ, _^_, _<_}
+use Rattle.finite.specs.Search.{least}
+use Rattle.finite.specs.Sets.{has, setOf, without}
+use Rattle.finite.proofs.Truth.{iff, refute}
+use Rattle.finite.proofs.Sets.{has-lt, without-in, without-ne, in-without}
+use Rattle.nodes.specs.Limits.{maxNodes}
+use Rattle.nodes.proofs.Words.{has-all, lowest-in, next-less, rest-at, word-lt}
+
+pub record Pass (left v next : ℕ) : Type 0 where
+  pub here : has left v ≡ true
+  pub node : v < maxNodes
+  pub gone : has next v ≡ false
+  pub inside : (k : ℕ) → has next k ≡ true → has left k ≡ true
+  pub kept : (k : ℕ) → (k ≡ v → ⊥) → has next k ≡ has left k
+  pub word : next < 2 ^ maxNodes
+  pub less : next < left
+
+pub pass : {left v next : ℕ} → left < 2 ^ maxNodes → (left ≡ 0 → ⊥) → v ≡ least maxNodes (has left)
+    → next ≡ setOf maxNodes (without (has left) (least maxNodes (has left))) → Pass left v next
+pass {left} {v} {next} l some lowest rest = record {
+  here = here;
+  node = has-lt maxNodes left v l here;
+  gone = at v ∙ refute _ (λ t. without-ne (has left) v v t refl);
+  inside = λ k t. without-in (has left) v k (sym (at k) ∙ t);
+  kept = λ k d. at k ∙ iff _ _ (without-in (has left) v k) (λ t. in-without (has left) t (λ e. d (sym e)));
+  word = word-lt maxNodes _ rest;
+  less = next-less maxNodes l some lowest less;
+}
+  where
+    less : next ≡ setOf maxNodes (without (has left) v)
+    less = rest-at maxNodes left lowest rest
+
+    here : has left v ≡ true
+    here = ap (has left) lowest ∙ lowest-in maxNodes left l some
+
+    at : (k : ℕ) → has next k ≡ without (has left) v k
+    at k = ap (λ (x : ℕ). has x k) less ∙ has-all maxNodes (without (has left) v) (λ u t. has-lt maxNodes left u l (without-in (has left) v u t)) k

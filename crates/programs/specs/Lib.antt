@@ -1,3 +1,0 @@
-pub mod Builds
-pub mod Shows
-pub mod Drains

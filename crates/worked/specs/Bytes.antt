@@ -1,0 +1,18 @@
+-- The table of the networks worked by hand as bytes: of each entry the number of nodes and the pairs; the labels, T, W and the first node; the tables of rows; the
+-- images; the messages, the moves and the first look. The number of bytes stands before what may be of any length.
+use mathlib.Core.List.{List, [], _∷_, _++_}
+use Prim.Native.Nat.{ℕ}
+use lib.ListN.{length}
+use Rattle.by_hand.specs.Networks.{Worked}
+
+abbrev pub counted : List ℕ → List ℕ
+counted l = length l ∷ l
+
+abbrev pub bytesOf : Worked → List ℕ
+bytesOf e =
+    e .cabling .nodes ∷ counted (e .cabling .pairs) ++ e .labels ++ (e .turns ∷ e .prohibited ∷ e .first ∷ counted (e .free)) ++ counted (e .falling)
+    ++ counted (e .links-image) ++ counted (e .full-image) ++ counted (e .messages) ++ (e .moves ∷ e .look ∷ [])
+
+abbrev pub flat : List Worked → List ℕ
+flat [] = []
+flat (e ∷ l) = bytesOf e ++ flat l
