@@ -11,7 +11,7 @@ use Rattle.finite.specs.Truth.{same}
 use Rattle.finite.specs.Sum.{sumTo, when}
 use Rattle.finite.proofs.Truth.{bcase, same-eq, same-ne}
 use Rattle.finite.proofs.Sum.{sum-more, sum-cong, sum-le, sum-add, sum-only, when-le, when-true, when-false}
-use Rattle.claims.specs.Claims.{Progress, holds, Lawful, made, whole}
+use Rattle.claims.specs.Claims.{Progress, Keeps, holds, Lawful, made, whole}
 use Rattle.claims.proofs.Holding.{done-free}
 
 -- sums that agree, one term by term at most the other, agree term by term
@@ -51,6 +51,6 @@ module _ (k : ℕ) (itinerary : ℕ → List ℕ) (s : Progress) (lawful : Lawfu
   )
 
 -- when everybody is done, nobody holds anything
-pub all-free : (k : ℕ) (itinerary : ℕ → List ℕ) (s : Progress) → ((m : ℕ) → m < k → s .done m ≡ true)
-    → (m : ℕ) → m < k → (r : ℕ) → holds itinerary s m r ≡ false
-all-free k itinerary s h m l r = done-free itinerary s m r (h m l)
+pub all-free : (k : ℕ) (itinerary : ℕ → List ℕ) (keeps : Keeps) (s : Progress) → ((m : ℕ) → m < k → s .done m ≡ true)
+    → (m : ℕ) → m < k → (r : ℕ) → holds itinerary keeps s m r ≡ false
+all-free k itinerary keeps s h m l r = done-free itinerary keeps s m r (h m l)

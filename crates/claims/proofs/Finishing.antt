@@ -9,7 +9,7 @@ use Rattle.finite.specs.Truth.{_&_, _or_, non, same}
 use Rattle.finite.specs.Sum.{when}
 use Rattle.finite.proofs.Truth.{no-tf, bcase, or-l, or-false, same-eq, same-ne, ne-same, same-refl}
 use Rattle.finite.proofs.Sum.{sum-cong, when-true, when-false}
-use Rattle.claims.specs.Claims.{Progress, among, holds, finishing, Lawful, Exclusive, made}
+use Rattle.claims.specs.Claims.{Progress, Keeps, among, holds, finishing, Lawful, Exclusive, made}
 use Rattle.claims.proofs.Holding.{done-free}
 use Rattle.claims.proofs.Counting.{sum-one-more}
 
@@ -40,15 +40,6 @@ module _ (s : Progress) (m : ℕ) where
           omega arith)
 
 module _ (itinerary : ℕ → List ℕ) (s : Progress) (m : ℕ) where
-  -- for the others nothing changes
-  pub finishing-other : (c r : ℕ) → (m ≡ c → ⊥) → holds itinerary (finishing s m) c r ≡ holds itinerary s c r
-  unfolding holds finishing
-  finishing-other c r d = ap (λ (b : Bool). non b & among (itinerary c) (s .taken c) r) (done-there s m c d)
-
-  -- it holds nothing more
-  pub finishing-free : (r : ℕ) → holds itinerary (finishing s m) m r ≡ false
-  finishing-free r = done-free itinerary (finishing s m) m r (done-here s m)
-
   pub finishing-lawful : (k : ℕ) → Lawful k itinerary s → s .taken m ≡ length (itinerary m) → Lawful k itinerary (finishing s m)
   unfolding finishing
   finishing-lawful k lawful e = record {
@@ -57,10 +48,20 @@ module _ (itinerary : ℕ → List ℕ) (s : Progress) (m : ℕ) where
         bcase (same m c) (λ t. rw (sym (same-eq m c t)) e) (λ t. lawful .finished c l (sym (done-there s m c (same-ne m c t)) ∙ h));
   }
 
-  pub finishing-exclusive : (k : ℕ) → Exclusive k itinerary s → Exclusive k itinerary (finishing s m)
+module _ (itinerary : ℕ → List ℕ) (keeps : Keeps) (s : Progress) (m : ℕ) where
+  -- for the others nothing changes
+  pub finishing-other : (c r : ℕ) → (m ≡ c → ⊥) → holds itinerary keeps (finishing s m) c r ≡ holds itinerary keeps s c r
+  unfolding holds finishing
+  finishing-other c r d = ap (λ (b : Bool). non b & among (itinerary c) (λ i. keeps c i (s .taken c)) (s .taken c) r) (done-there s m c d)
+
+  -- it holds nothing more
+  pub finishing-free : (r : ℕ) → holds itinerary keeps (finishing s m) m r ≡ false
+  finishing-free r = done-free itinerary keeps (finishing s m) m r (done-here s m)
+
+  pub finishing-exclusive : (k : ℕ) → Exclusive k itinerary keeps s → Exclusive k itinerary keeps (finishing s m)
   finishing-exclusive k one a b r i j x y = one a b r i j (before a x) (before b y)
     where
-      before : (c : ℕ) → holds itinerary (finishing s m) c r ≡ true → holds itinerary s c r ≡ true
+      before : (c : ℕ) → holds itinerary keeps (finishing s m) c r ≡ true → holds itinerary keeps s c r ≡ true
       before c h =
-          bcase (same m c) (λ t. no-tf h (ap (λ (x : ℕ). holds itinerary (finishing s m) x r) (sym (same-eq m c t)) ∙ finishing-free r))
+          bcase (same m c) (λ t. no-tf h (ap (λ (x : ℕ). holds itinerary keeps (finishing s m) x r) (sym (same-eq m c t)) ∙ finishing-free r))
           (λ t. sym (finishing-other c r (same-ne m c t)) ∙ h)

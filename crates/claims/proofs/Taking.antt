@@ -1,4 +1,4 @@
--- What taking the next resource changes: the claimant holds one resource more, one step more is made, and nothing changes for the others.
+-- What taking the next resource changes: the claimant holds that one and what it still keeps, one step more is made, and nothing changes for the others.
 use mathlib.Core.Path.{_≡_, refl, sym, _∙_, ap, ap₂}
 use mathlib.Core.Bool.{Bool, true, false}
 use mathlib.Core.List.{List}
@@ -6,13 +6,14 @@ use Prim.Native.Nat.{ℕ, suc, _+_, _<_}
 use native.Mathlib.Nat.{add-zero}
 use native.Mathlib.Numerals.{add-one}
 use native.Mathlib.Omega.{arith}
-use lib.ListN.{length}
+use lib.ListN.{length, getD}
 use Rattle.finite.specs.Truth.{_&_, _or_, non, same}
 use Rattle.finite.specs.Sum.{when}
-use Rattle.finite.proofs.Truth.{no-tf, bcase, and-true, or-case, true-non, same-eq, same-ne, ne-same, same-refl}
+use Rattle.finite.proofs.Truth.{no-tf, bcase, both, and-l, and-r, and-true, or-case, same-eq, same-ne, ne-same, same-refl}
 use Rattle.finite.proofs.Sum.{sum-cong, when-true, when-false}
-use Rattle.finite.proofs.Search.{any-more}
-use Rattle.claims.specs.Claims.{Progress, among, holds, wanted, taking, Lawful, Exclusive, made}
+use Rattle.finite.proofs.Search.{any-more, any-some, some-any, any-cong}
+use Rattle.claims.specs.Claims.{Progress, Keeps, among, holds, wanted, taking, Keeping, Lawful, Exclusive, made}
+use Rattle.claims.proofs.Holding.{undone-holds}
 use Rattle.claims.proofs.Counting.{sum-one-more}
 
 module _ (s : Progress) (m : ℕ) where
@@ -35,19 +36,6 @@ module _ (s : Progress) (m : ℕ) where
       ∙ sum-one-more k m _ l
 
 module _ (itinerary : ℕ → List ℕ) (s : Progress) (m : ℕ) where
-  -- for the others nothing changes
-  pub taking-other : (c r : ℕ) → (m ≡ c → ⊥) → holds itinerary (taking s m) c r ≡ holds itinerary s c r
-  unfolding holds
-  taking-other c r d = ap₂ (λ (x : Bool) (j : ℕ). non x & among (itinerary c) j r) (taking-done s m c) (taken-there s m c d)
-
-  -- it holds what it wanted, and what it held
-  pub taking-holds : (r : ℕ) → s .done m ≡ false → holds itinerary (taking s m) m r ≡ same (wanted itinerary s m) r or holds itinerary s m r
-  unfolding holds among
-  taking-holds r d =
-      ap₂ (λ (x : Bool) (j : ℕ). non x & among (itinerary m) j r) (taking-done s m m) (taken-here s m)
-      ∙ ap (λ (b : Bool). b & among (itinerary m) (suc (s .taken m)) r) (true-non d) ∙ and-true _ ∙ any-more (s .taken m) _
-      ∙ ap (λ (b : Bool). same (wanted itinerary s m) r or b) (sym (ap (λ (b : Bool). b & among (itinerary m) (s .taken m) r) (true-non d) ∙ and-true _))
-
   pub taking-lawful : (k : ℕ) → Lawful k itinerary s → s .done m ≡ false → s .taken m < length (itinerary m) → Lawful k itinerary (taking s m)
   taking-lawful k lawful d b = record {
     within = λ c l.
@@ -58,21 +46,58 @@ module _ (itinerary : ℕ → List ℕ) (s : Progress) (m : ℕ) where
         taken-there s m c (λ e. no-tf was (ap (s .done) (sym e) ∙ d)) ∙ lawful .finished c l was;
   }
 
-  -- a holder after the step took the resource just now, or held it before
-  new-or-held {ℓ} : {A : Type ℓ} (c r : ℕ) → s .done m ≡ false → holds itinerary (taking s m) c r ≡ true
-      → (m ≡ c → wanted itinerary s m ≡ r → A) → (holds itinerary s c r ≡ true → A) → A
-  new-or-held c r d h new old =
-      bcase (same m c)
-      (λ t.
-      let e = same-eq m c t in
-      or-case _ _ (sym (taking-holds r d) ∙ ap (λ (x : ℕ). holds itinerary (taking s m) x r) e ∙ h) (λ q. new e (same-eq _ _ q))
-      (λ q. old (ap (λ (x : ℕ). holds itinerary s x r) (sym e) ∙ q)))
-      (λ t. old (sym (taking-other c r (same-ne m c t)) ∙ h))
+module _ (itinerary : ℕ → List ℕ) (keeps : Keeps) (s : Progress) (m : ℕ) where
+  -- for the others nothing changes
+  pub taking-other : (c r : ℕ) → (m ≡ c → ⊥) → holds itinerary keeps (taking s m) c r ≡ holds itinerary keeps s c r
+  unfolding holds
+  taking-other c r d = ap₂ (λ (x : Bool) (j : ℕ). non x & among (itinerary c) (λ i. keeps c i j) j r) (taking-done s m c) (taken-there s m c d)
 
-  -- a resource that nobody held has one holder then
-  pub taking-exclusive : (k : ℕ) → Exclusive k itinerary s → s .done m ≡ false
-      → ((c : ℕ) → c < k → holds itinerary s c (wanted itinerary s m) ≡ false) → Exclusive k itinerary (taking s m)
-  taking-exclusive k one d free a b r i j x y =
-      new-or-held a r d x
-      (λ e w. new-or-held b r d y (λ f v. sym e ∙ f) (λ v. no-tf v (ap (holds itinerary s b) (sym w) ∙ free b j)))
-      (λ w. new-or-held b r d y (λ f v. no-tf w (ap (holds itinerary s a) (sym v) ∙ free a i)) (one a b r i j w))
+  module _ (keeping : Keeping keeps) (d : s .done m ≡ false) where
+    -- what it keeps of what it had taken, once it has taken one more
+    abbrev still : ℕ → Bool
+    still r = among (itinerary m) (λ i. keeps m i (suc (s .taken m))) (s .taken m) r
+
+    -- it held that
+    still-held : (r : ℕ) → still r ≡ true → holds itinerary keeps s m r ≡ true
+    unfolding among
+    still-held r h =
+        let x = any-some (s .taken m) _ h in
+        undone-holds itinerary keeps s m r d
+        ∙ some-any (s .taken m) _ (x .at) (x .low) (both (keeping .old m (x .at) (s .taken m) (and-l _ _ (x .fact))) (and-r _ _ (x .fact)))
+
+    -- it holds what it wanted, and what it still keeps
+    pub taking-holds : (r : ℕ) → holds itinerary keeps (taking s m) m r ≡ same (wanted itinerary s m) r or still r
+    unfolding among
+    taking-holds r =
+        undone-holds itinerary keeps (taking s m) m r (taking-done s m m ∙ d)
+        ∙ ap (λ (j : ℕ). among (itinerary m) (λ i. keeps m i j) j r) (taken-here s m) ∙ any-more (s .taken m) _
+        ∙ ap (λ (b : Bool). (b & same (wanted itinerary s m) r) or still r) (keeping .new m (s .taken m))
+        ∙ ap (λ (b : Bool). b or still r) (and-true _)
+
+    -- where it gives nothing back by this step: what it wanted, and what it held
+    pub taking-kept : ((i : ℕ) → i < s .taken m → keeps m i (suc (s .taken m)) ≡ keeps m i (s .taken m))
+        → (r : ℕ) → holds itinerary keeps (taking s m) m r ≡ same (wanted itinerary s m) r or holds itinerary keeps s m r
+    unfolding among
+    taking-kept kept r =
+        taking-holds r
+        ∙ ap (λ (b : Bool). same (wanted itinerary s m) r or b)
+        (any-cong (s .taken m) _ _ (λ i l. ap (λ (b : Bool). b & same (getD (itinerary m) i 0) r) (kept i l)) ∙ sym (undone-holds itinerary keeps s m r d))
+
+    -- a holder after the step took the resource just now, or held it before
+    new-or-held {ℓ} : {A : Type ℓ} (c r : ℕ) → holds itinerary keeps (taking s m) c r ≡ true
+        → (m ≡ c → wanted itinerary s m ≡ r → A) → (holds itinerary keeps s c r ≡ true → A) → A
+    new-or-held c r h new old =
+        bcase (same m c)
+        (λ t.
+        let e = same-eq m c t in
+        or-case _ _ (sym (taking-holds r) ∙ ap (λ (x : ℕ). holds itinerary keeps (taking s m) x r) e ∙ h) (λ q. new e (same-eq _ _ q))
+        (λ q. old (ap (λ (x : ℕ). holds itinerary keeps s x r) (sym e) ∙ still-held r q)))
+        (λ t. old (sym (taking-other c r (same-ne m c t)) ∙ h))
+
+    -- a resource that nobody held has one holder then
+    pub taking-exclusive : (k : ℕ) → Exclusive k itinerary keeps s → ((c : ℕ) → c < k → holds itinerary keeps s c (wanted itinerary s m) ≡ false)
+        → Exclusive k itinerary keeps (taking s m)
+    taking-exclusive k one free a b r i j x y =
+        new-or-held a r x
+        (λ e w. new-or-held b r y (λ f v. sym e ∙ f) (λ v. no-tf v (ap (holds itinerary keeps s b) (sym w) ∙ free b j)))
+        (λ w. new-or-held b r y (λ f v. no-tf w (ap (holds itinerary keeps s a) (sym v) ∙ free a i)) (one a b r i j w))

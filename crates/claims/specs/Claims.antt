@@ -1,8 +1,9 @@
--- Claimants 0 .. k - 1, each with an itinerary: the resources it takes, one after the other, and gives back all together when it is done.
+-- Claimants 0 .. k - 1, each with an itinerary: the resources it takes, one after the other. Some it may give back on the way, and all the rest together
+-- when it is done.
 use mathlib.Core.Path.{_≡_}
 use mathlib.Core.Bool.{Bool, true, false}
 use mathlib.Core.List.{List}
-use Prim.Native.Nat.{ℕ, _+_, _≤_, _<_}
+use Prim.Native.Nat.{ℕ, suc, _+_, _≤_, _<_}
 use lib.ListN.{length, getD}
 use Rattle.finite.specs.Truth.{_&_, _or_, non, same}
 use Rattle.finite.specs.Sum.{sumTo, when}
@@ -13,29 +14,38 @@ pub record Progress : Type 0 where
   pub taken : ℕ → ℕ
   pub done : ℕ → Bool
 
--- resource r is among the first j of the itinerary
-unfoldable pub among : List ℕ → ℕ → ℕ → Bool
-among itinerary j r = any j (λ i. same (getD itinerary i 0) r)
+-- which of the resources taken are kept: keeps m i j, whether claimant m with j taken keeps number i of them
+abbrev pub Keeps : Type 0
+Keeps = ℕ → ℕ → ℕ → Bool
 
--- claimant m holds r: it has taken it and is not done
-unfoldable pub holds : (ℕ → List ℕ) → Progress → ℕ → ℕ → Bool
-holds itinerary s m r = non (s .done m) & among (itinerary m) (s .taken m) r
+-- what is just taken is kept, and what is given back stays so
+pub record Keeping (keeps : Keeps) : Type 0 where
+  pub new : (m j : ℕ) → keeps m j (suc j) ≡ true
+  pub old : (m i j : ℕ) → keeps m i (suc j) ≡ true → keeps m i j ≡ true
+
+-- resource r is among the first j of the itinerary, as one of those that are kept
+unfoldable pub among : List ℕ → (ℕ → Bool) → ℕ → ℕ → Bool
+among itinerary kept j r = any j (λ i. kept i & same (getD itinerary i 0) r)
+
+-- claimant m holds r: it has taken it, keeps it, and is not done
+unfoldable pub holds : (ℕ → List ℕ) → Keeps → Progress → ℕ → ℕ → Bool
+holds itinerary keeps s m r = non (s .done m) & among (itinerary m) (λ i. keeps m i (s .taken m)) (s .taken m) r
 
 -- the resource that claimant m wants next
 abbrev pub wanted : (ℕ → List ℕ) → Progress → ℕ → ℕ
 wanted itinerary s m = getD (itinerary m) (s .taken m) 0
 
 -- the steps that can be made: take the next resource when nobody holds it, or be done when there is none to take
-pub data CanStep (k : ℕ) (itinerary : ℕ → List ℕ) (s : Progress) (m : ℕ) : Type 0 where
+pub data CanStep (k : ℕ) (itinerary : ℕ → List ℕ) (keeps : Keeps) (s : Progress) (m : ℕ) : Type 0 where
   can-take : s .done m ≡ false → s .taken m < length (itinerary m)
-      → ((c : ℕ) → c < k → holds itinerary s c (wanted itinerary s m) ≡ false) → CanStep k itinerary s m
-  can-finish : s .done m ≡ false → s .taken m ≡ length (itinerary m) → CanStep k itinerary s m
+      → ((c : ℕ) → c < k → holds itinerary keeps s c (wanted itinerary s m) ≡ false) → CanStep k itinerary keeps s m
+  can-finish : s .done m ≡ false → s .taken m ≡ length (itinerary m) → CanStep k itinerary keeps s m
 
 -- some claimant can make a step
-pub record SomeCanStep (k : ℕ) (itinerary : ℕ → List ℕ) (s : Progress) : Type 0 where
+pub record SomeCanStep (k : ℕ) (itinerary : ℕ → List ℕ) (keeps : Keeps) (s : Progress) : Type 0 where
   pub at : ℕ
   pub low : at < k
-  pub can : CanStep k itinerary s at
+  pub can : CanStep k itinerary keeps s at
 
 -- what a step leaves: one claimant has taken one resource more, or is done
 unfoldable pub taking : Progress → ℕ → Progress
@@ -55,9 +65,9 @@ pub record Lawful (k : ℕ) (itinerary : ℕ → List ℕ) (s : Progress) : Type
   pub finished : (m : ℕ) → m < k → s .done m ≡ true → s .taken m ≡ length (itinerary m)
 
 -- no resource has two holders
-abbrev pub Exclusive : ℕ → (ℕ → List ℕ) → Progress → Type 0
-Exclusive k itinerary s =
-    (a b r : ℕ) → a < k → b < k → holds itinerary s a r ≡ true → holds itinerary s b r ≡ true → a ≡ b
+abbrev pub Exclusive : ℕ → (ℕ → List ℕ) → Keeps → Progress → Type 0
+Exclusive k itinerary keeps s =
+    (a b r : ℕ) → a < k → b < k → holds itinerary keeps s a r ≡ true → holds itinerary keeps s b r ≡ true → a ≡ b
 
 -- the steps made, and the steps there are
 unfoldable pub made : ℕ → Progress → ℕ

@@ -38,7 +38,7 @@ begun-tight n labels free falling list x y p q = p ∙ sym q
 pub blank-tight : (x y : Record) → x ≡ blankRecord → y ≡ blankRecord → x ≡ y
 blank-tight x y p q = p ∙ sym q
 
--- of `is_ready` at a record, of `is_ready_in` at what is told of one
+-- of `is_ready_in`, at what is told of a record
 pub ready-tight : (r : Record) (m : ℕ) (x y : Bool) → x ≡ ready r m → y ≡ ready r m → x ≡ y
 ready-tight r m x y p q = p ∙ sym q
 

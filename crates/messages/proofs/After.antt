@@ -10,21 +10,25 @@ use Rattle.finite.proofs.Truth.{bcase, false-non, true-non, non-true, or-l, or-
 use Rattle.finite.proofs.Lists.{tabulate-length}
 use Rattle.lawful.specs.Entry.{after}
 use Rattle.lawful.proofs.Run.{Hop, rise, fall, rises-lt, falls-lt}
-use Rattle.claims.specs.Claims.{Progress, holds, taking, finishing, made}
+use Rattle.claims.specs.Claims.{Progress, Keeping, holds, wanted, taking, finishing, made}
 use Rattle.claims.proofs.Counting.{made-le}
-use Rattle.claims.proofs.Taking.{taken-here, taken-there, taking-done, taking-made, taking-other, taking-holds, taking-lawful}
+use Rattle.claims.proofs.Taking.{taken-here, taken-there, taking-done, taking-made, taking-other, taking-kept, taking-lawful}
 use Rattle.claims.proofs.Finishing.{done-here, done-there, finishing-made, finishing-other, finishing-free, finishing-lawful}
 use Rattle.messages.specs.Sizes.{maxMessages, maxPairs}
 use Rattle.messages.specs.declared.Record.{Record}
 use Rattle.messages.specs.Step.{head, target, isFalling, isDelivered, nextNode, nextChannel, holder, classAfter, counted, released, moved, arrived}
 use Rattle.messages.specs.Fresh.{sourceIn}
 use Rattle.messages.specs.Runs.{labelIn, Tabled, Listed, messagesIn, routeIn, itineraryIn}
-use Rattle.messages.specs.Tells.{Says}
+use Rattle.messages.specs.Tells.{keeps, Says}
 use Rattle.messages.proofs.Moves.{class-fall, class-free}
 use Rattle.messages.proofs.Changes.{released-here, released-other, moved-head, moved-heads, moved-class, moved-classes, moved-holder, moved-holders, arrived-mark, arrived-marks, arrived-holders}
 use Rattle.messages.proofs.State.{Kept, OnRoute, State, few-messages}
 use Rattle.messages.proofs.Hops.{more-to-take, next-hop, next-way, next-wanted, next-inside}
 use Rattle.messages.proofs.Total.{all-moves-small, all-moves-whole}
+
+-- nothing is given back on the way
+all-kept : Keeping keeps
+all-kept = record { new = λ m j. refl; old = λ m i j h. refl }
 
 -- ---- what no move changes
 
@@ -112,21 +116,25 @@ module _ {n : ℕ} {edge : ℕ → ℕ → Bool} {labels free falling list : Lis
         ap (holder (moved r m)) (sym e)
         ∙ moved-holder r m (let a = next-inside tabled listed state m low d in let b = state .kept .holders-size in omega arith)
 
-    held-here : (c : ℕ) → same (holder (moved r m) c) (suc m) ≡ holds itinerary ahead m c
+    -- by the claims it holds that one and what it held
+    took : (c : ℕ) → holds itinerary keeps ahead m c ≡ same (wanted itinerary s m) c or holds itinerary keeps s m c
+    took = taking-kept itinerary keeps s m all-kept fresh (λ i l. refl)
+
+    held-here : (c : ℕ) → same (holder (moved r m) c) (suc m) ≡ holds itinerary keeps ahead m c
     held-here c =
         let w = next-wanted tabled listed state m low d in
         bcase (same (nextChannel r m) c)
         (λ t.
         let e = same-eq _ _ t in
-        eq-same (chosen c e) ∙ sym (taking-holds itinerary s m c fresh ∙ or-l _ (eq-same (sym w ∙ e))))
+        eq-same (chosen c e) ∙ sym (took c ∙ or-l _ (eq-same (sym w ∙ e))))
         (λ t.
         let e = same-ne _ _ t in
         ap (λ (h : ℕ). same h (suc m)) (moved-holders r m c e) ∙ state .says .held c m low
-        ∙ sym (taking-holds itinerary s m c fresh ∙ ap (λ (x : Bool). x or holds itinerary s m c) (ne-same (λ q. e (w ∙ q))) ∙ or-false _))
+        ∙ sym (took c ∙ ap (λ (x : Bool). x or holds itinerary keeps s m c) (ne-same (λ q. e (w ∙ q))) ∙ or-false _))
 
-    held-there : (b c : ℕ) → (m ≡ b → ⊥) → b < k → same (holder (moved r m) c) (suc b) ≡ holds itinerary ahead b c
+    held-there : (b c : ℕ) → (m ≡ b → ⊥) → b < k → same (holder (moved r m) c) (suc b) ≡ holds itinerary keeps ahead b c
     held-there b c e l =
-        let old = state .says .held c b l ∙ sym (taking-other itinerary s m b c e) in
+        let old = state .says .held c b l ∙ sym (taking-other itinerary keeps s m b c e) in
         bcase (same (nextChannel r m) c)
         (λ t.
         let q = same-eq _ _ t in
@@ -154,7 +162,7 @@ module _ {n : ℕ} {edge : ℕ → ℕ → Bool} {labels free falling list : Lis
       lawful = taking-lawful itinerary s m k (state .says .lawful) fresh (more-to-take tabled listed state m low d);
       at = moved-at;
       done = moved-done;
-      held = λ c b. by-message (λ b. b < k → same (holder (moved r m) c) (suc b) ≡ holds itinerary ahead b c) (λ l. held-here c) (λ b e. held-there b c e) b;
+      held = λ c b. by-message (λ b. b < k → same (holder (moved r m) c) (suc b) ≡ holds itinerary keeps ahead b c) (λ l. held-here c) (λ b e. held-there b c e) b;
       owners = λ c.
           bcase (same (nextChannel r m) c) (λ t. let h = chosen c (same-eq _ _ t) in omega arith)
           (λ t. let h = moved-holders r m c (same-ne _ _ t) in let o = state .says .owners c in omega arith);
@@ -194,14 +202,14 @@ module _ {n : ℕ} {edge : ℕ → ℕ → Bool} {labels free falling list : Lis
         (λ t. let e = same-eq _ _ t in f e (left-holder c ∙ released-here (holder r c) (suc m) e))
         (λ t. let e = same-ne _ _ t in g e (left-holder c ∙ released-other (holder r c) (suc m) e))
 
-    gone-here : (c : ℕ) → same (holder (arrived r m) c) (suc m) ≡ holds itinerary ended m c
+    gone-here : (c : ℕ) → same (holder (arrived r m) c) (suc m) ≡ holds itinerary keeps ended m c
     gone-here c =
-        left-case c (λ e z. ne-same (λ q. omega arith)) (λ e z. ne-same (λ q. e (sym z ∙ q))) ∙ sym (finishing-free itinerary s m c)
+        left-case c (λ e z. ne-same (λ q. omega arith)) (λ e z. ne-same (λ q. e (sym z ∙ q))) ∙ sym (finishing-free itinerary keeps s m c)
 
-    gone-there : (b c : ℕ) → (m ≡ b → ⊥) → b < k → same (holder (arrived r m) c) (suc b) ≡ holds itinerary ended b c
+    gone-there : (b c : ℕ) → (m ≡ b → ⊥) → b < k → same (holder (arrived r m) c) (suc b) ≡ holds itinerary keeps ended b c
     gone-there b c e l =
         left-case c (λ h z. ne-same (λ q. omega arith) ∙ sym (ne-same (λ q. e (omega arith)))) (λ h z. ap (λ (x : ℕ). same x (suc b)) z)
-        ∙ state .says .held c b l ∙ sym (finishing-other itinerary s m b c e)
+        ∙ state .says .held c b l ∙ sym (finishing-other itinerary keeps s m b c e)
 
     arrived-at : (c : ℕ) → c < k → head (arrived r m) c ≡ getD (sourceIn list c ∷ routeIn n edge labels list c) (ended .taken c) 0
     unfolding arrived finishing
@@ -222,7 +230,7 @@ module _ {n : ℕ} {edge : ℕ → ℕ → Bool} {labels free falling list : Lis
       lawful = finishing-lawful itinerary s m k (state .says .lawful) last;
       at = arrived-at;
       done = arrived-done;
-      held = λ c b. by-message (λ b. b < k → same (holder (arrived r m) c) (suc b) ≡ holds itinerary ended b c) (λ l. gone-here c) (λ b e. gone-there b c e) b;
+      held = λ c b. by-message (λ b. b < k → same (holder (arrived r m) c) (suc b) ≡ holds itinerary keeps ended b c) (λ l. gone-here c) (λ b e. gone-there b c e) b;
       owners = λ c. let o = state .says .owners c in left-case c (λ e z. omega arith) (λ e z. omega arith);
       count = arrived-count;
     }

@@ -14,7 +14,7 @@ use Rattle.messages.specs.declared.Answer.the-variants.{Moved, Blocked}
 use Rattle.messages.specs.declared.Stepped.{Stepped}
 use Rattle.messages.specs.Step.{head, target, isDelivered, nextChannel, holder, moved, arrived, stepOf}
 use Rattle.messages.specs.Runs.{labelIn, Tabled, Listed, messagesIn, itineraryIn, Reached, successful}
-use Rattle.messages.specs.Tells.{Says, BlockedBy, Took, Arrived, Tells}
+use Rattle.messages.specs.Tells.{keeps, Says, BlockedBy, Took, Arrived, Tells}
 use Rattle.messages.proofs.Moves.{Case, unknown, already, arrives, waits, moves, step-case}
 use Rattle.messages.proofs.Channels.{channelRank}
 use Rattle.messages.proofs.Changes.{released-here, released-other, moved-holder, moved-holders, arrived-holders}
@@ -38,7 +38,7 @@ unchanged r m = go (step-case r m)
 
 -- "one message to a directed link": a channel has one holder in the record
 pub one-message : {n : ℕ} {edge : ℕ → ℕ → Bool} {labels list : List ℕ} {r : Record} {s : Progress} → Says n edge labels list r s
-    → Exclusive (messagesIn list) (itineraryIn n edge labels list) s
+    → Exclusive (messagesIn list) (itineraryIn n edge labels list) keeps s
 one-message says a b c i j x y =
     let p = same-eq _ _ (says .held c a i ∙ x) in
     let q = same-eq _ _ (says .held c b j ∙ y) in
@@ -56,11 +56,11 @@ module _ {n : ℕ} {edge : ℕ → ℕ → Bool} {labels free falling list : Lis
     waits-for : (head r m ≡ target r m → ⊥) → (b : ℕ) → b < k → holder r (nextChannel r m) ≡ suc b → BlockedBy k r m b
     waits-for d b l e =
         let h = holder-holds tabled listed state m low d b l e in
-        let own = not-own k itinerary (channelRank n (labelIn labels)) s (state .says .lawful) (channels-rising tabled listed) m low (more-to-take tabled listed state m low d) in
+        let own = not-own k itinerary keeps (channelRank n (labelIn labels)) s (state .says .lawful) (channels-rising tabled listed) m low (more-to-take tabled listed state m low d) in
         record {
           low = l;
-          other = λ q. no-tf h (ap (λ (x : ℕ). holds itinerary s x (wanted itinerary s m)) q ∙ own);
-          undelivered = state .says .done b l ∙ holds-held itinerary s b _ h .not-done;
+          other = λ q. no-tf h (ap (λ (x : ℕ). holds itinerary keeps s x (wanted itinerary s m)) q ∙ own);
+          undelivered = state .says .done b l ∙ holds-held itinerary keeps s b _ h .not-done;
           holds-it = e;
         }
 

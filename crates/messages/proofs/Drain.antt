@@ -20,7 +20,7 @@ use Rattle.messages.specs.declared.Stepped.{Stepped}
 use Rattle.messages.specs.Step.{isDelivered, holder, counted, moved, arrived, stepOf}
 use Rattle.messages.specs.Fresh.{begunOf}
 use Rattle.messages.specs.Runs.{Tabled, Listed, messagesIn, itineraryIn, allMoves, Reached, fresh, move, successful, successes}
-use Rattle.messages.specs.Tells.{Says, FreeFrom}
+use Rattle.messages.specs.Tells.{keeps, Says, FreeFrom}
 use Rattle.messages.proofs.Moves.{Case, unknown, already, arrives, waits, moves, step-case}
 use Rattle.messages.proofs.State.{State}
 use Rattle.messages.proofs.Total.{all-moves-small, all-moves-whole, channels-inside}
@@ -69,7 +69,7 @@ module _ {n : ℕ} {edge : ℕ → ℕ → Bool} {labels free falling list : Lis
         )
 
     -- a channel that no message holds is free
-    unheld : (c : ℕ) → ((b : ℕ) → b < k → holds itinerary so-far b c ≡ false) → holder r c ≡ 0
+    unheld : (c : ℕ) → ((b : ℕ) → b < k → holds itinerary keeps so-far b c ≡ false) → holder r c ≡ 0
     unheld c none =
         bcase (same (holder r c) 0) (same-eq _ _)
         (λ t.
@@ -81,7 +81,7 @@ module _ {n : ℕ} {edge : ℕ → ℕ → Bool} {labels free falling list : Lis
 
     -- "and then every link is free"
     pub every-link-free : ((m : ℕ) → m < k → isDelivered r m ≡ true) → (c : ℕ) → holder r c ≡ 0
-    every-link-free h c = unheld c (λ b l. all-free k itinerary so-far (λ m i. sym (state .says .done m i) ∙ h m i) b l c)
+    every-link-free h c = unheld c (λ b l. all-free k itinerary keeps so-far (λ m i. sym (state .says .done m i) ∙ h m i) b l c)
 
     -- only channels between the n nodes are ever held
     pub free-from : FreeFrom (maxNodes * n) (r .holders)
@@ -89,7 +89,7 @@ module _ {n : ℕ} {edge : ℕ → ℕ → Bool} {labels free falling list : Lis
       none = λ c past.
           unheld c (λ b l.
           refute _ (λ h.
-          let held = holds-held itinerary so-far b c h in
+          let held = holds-held itinerary keeps so-far b c h in
           let e = held .is in
           let i = held .before in
           let w = state .says .lawful .within b l in

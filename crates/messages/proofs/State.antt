@@ -17,7 +17,7 @@ use Rattle.messages.specs.declared.Record.{Record}
 use Rattle.messages.specs.Step.{head, target, isFalling, isDelivered}
 use Rattle.messages.specs.Fresh.{sourceIn, targetIn, zeros, begunOf}
 use Rattle.messages.specs.Runs.{labelIn, Tabled, Listed, messagesIn, routeIn, itineraryIn}
-use Rattle.messages.specs.Tells.{Says}
+use Rattle.messages.specs.Tells.{keeps, Says}
 use Rattle.messages.proofs.Way.{OnWay, way-start}
 
 -- what no move changes, and the sizes of the arrays
@@ -105,7 +105,7 @@ module _ {n : ℕ} {edge : ℕ → ℕ → Bool} {labels free falling list : Lis
     done = λ m l. ap (λ (x : ℕ). non (same x 0)) (zeros-at maxMessages m) ∙ false-non (same-refl 0);
     held = λ c m l.
         ap (λ (x : ℕ). same x (suc m)) (zeros-at maxPairs c) ∙ ne-same (λ e. omega arith)
-        ∙ sym (refute _ (λ h. let b = holds-held (itineraryIn n edge labels list) none-taken m c h .before in omega arith));
+        ∙ sym (refute _ (λ h. let b = holds-held (itineraryIn n edge labels list) keeps none-taken m c h .before in omega arith));
     owners = λ c. let z = zeros-at maxPairs c in omega arith;
     count = sym (none-made (messagesIn list));
   }

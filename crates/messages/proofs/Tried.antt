@@ -14,6 +14,7 @@ use Rattle.messages.specs.declared.Record.{Record}
 use Rattle.messages.specs.declared.Stepped.{Stepped}
 use Rattle.messages.specs.Step.{head, target, isDelivered, nextChannel, holder, stepOf}
 use Rattle.messages.specs.Runs.{labelIn, Tabled, Listed, messagesIn, itineraryIn, successful}
+use Rattle.messages.specs.Tells.{keeps}
 use Rattle.messages.proofs.Moves.{Case, unknown, already, arrives, waits, moves, step-case}
 use Rattle.messages.proofs.Channels.{channelRank}
 use Rattle.messages.proofs.State.{State, few-messages}
@@ -49,12 +50,12 @@ module _ {n : ℕ} {edge : ℕ → ℕ → Bool} {labels free falling list : Lis
     pub holder-low : (holder r (nextChannel r m) ≡ 0 → ⊥) → holder r (nextChannel r m) - 1 < k
     holder-low h = let o = state .says .owners (nextChannel r m) in omega arith
 
-    pub holder-holds : m < k → (head r m ≡ target r m → ⊥) → (b : ℕ) → b < k → holder r (nextChannel r m) ≡ suc b → holds itinerary s b (wanted itinerary s m) ≡ true
+    pub holder-holds : m < k → (head r m ≡ target r m → ⊥) → (b : ℕ) → b < k → holder r (nextChannel r m) ≡ suc b → holds itinerary keeps s b (wanted itinerary s m) ≡ true
     holder-holds low d b l e =
-        sym (ap (holds itinerary s b) (next-wanted tabled listed state m low d)) ∙ sym (state .says .held (nextChannel r m) b l) ∙ eq-same e
+        sym (ap (holds itinerary keeps s b) (next-wanted tabled listed state m low d)) ∙ sym (state .says .held (nextChannel r m) b l) ∙ eq-same e
 
     -- what the claims allow, the machine does
-    can-succeed : m < k → {x : Stepped} → Case r m x → CanStep k itinerary s m → successful (x .answer) ≡ true
+    can-succeed : m < k → {x : Stepped} → Case r m x → CanStep k itinerary keeps s m → successful (x .answer) ≡ true
     can-succeed low (unknown t) c = let h = unknown-high t in absurd (omega arith)
     can-succeed low (already l u) (can-take f b h) = no-tf (sym (state .says .done m low) ∙ u) f
     can-succeed low (already l u) (can-finish f e) = no-tf (sym (state .says .done m low) ∙ u) f
@@ -67,5 +68,5 @@ module _ {n : ℕ} {edge : ℕ → ℕ → Bool} {labels free falling list : Lis
   pub some-succeeds : Some k (λ m. non (isDelivered r m)) → Some k (λ m. successful (stepOf r m .answer))
   some-succeeds x =
       let undone : Some k (λ m. non (s .done m)) = record { at = x .at; low = x .low; fact = ap non (sym (state .says .done (x .at) (x .low))) ∙ x .fact } in
-      let c = some-can-step k itinerary (channelRank n (labelIn labels)) s (state .says .lawful) (channels-rising tabled listed) undone in
+      let c = some-can-step k itinerary keeps (channelRank n (labelIn labels)) s (state .says .lawful) (channels-rising tabled listed) undone in
       record { at = c .at; low = c .low; fact = can-succeed (c .at) (c .low) (step-case r (c .at)) (c .can) }
