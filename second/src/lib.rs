@@ -1,5 +1,5 @@
 //! The second program: images, labels, rows, routes, the drain machine and
-//! the programs of the scope paper, and the cases for the comparison.
+//! the programs of docs/RULES.md, and the cases for the comparison.
 
 pub mod by_hand;
 pub mod calls;

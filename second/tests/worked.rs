@@ -1,4 +1,4 @@
-//! The networks worked by hand, with the values the scope paper prints.
+//! The networks worked by hand, with the values of RULES 11.
 
 use second::calls::{accept, build, read, write, Fabric, Read};
 use second::cases::cabling::*;

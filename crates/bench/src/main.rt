@@ -1,7 +1,6 @@
 // Bench: repeats one piece of work inside one process, and prints the last answer's number. Input: the work (0 builds, 1 drains), the number of repeats
 // (32 bits, low byte first); for builds a links image; for drains an image's length (16 bits, low byte first), the image, and pairs.
-ghost use Prim.Native.Nat.{_≤_};
-use written::Written;
+use results::Written;
 
 // How many bytes were written; 0 where none were.
 fn bytes_in(written: Written) -> usize {
@@ -13,11 +12,11 @@ fn bytes_in(written: Written) -> usize {
 
 // Builds so many times, into room that differs by a byte from one to the next, and answers how many bytes the last one wrote.
 fn builds(links: &[u8], repeats: u32) -> usize {
-    let mut buffer = [0u8; 9309];
+    let mut buffer = [0u8; image::LONGEST + 1];
     let mut last: usize = 0;
     for i in 0..repeats {
-        let room = 9308 + (i % 2) as usize;
-        let built = image::build(links, &mut buffer[..room]);
+        let room = image::LONGEST + (i % 2) as usize;
+        let built = writing::build(links, &mut buffer[..room]);
         last = bytes_in(built);
     }
     last
@@ -25,7 +24,7 @@ fn builds(links: &[u8], repeats: u32) -> usize {
 
 // Drains so many times, each with its own number as the seed, and answers the moves of the last one.
 fn drains(image: &[u8], list: &[u8], repeats: u32) -> usize {
-    let mut last = machine::blank();
+    let mut last = records::blank();
     for seed in 0..repeats {
         let drained = draining::drain(last, image, list, seed);
         let after = drained.record;
@@ -34,19 +33,12 @@ fn drains(image: &[u8], list: &[u8], repeats: u32) -> usize {
     last.moves
 }
 
-// A byte as a number.
-fn wide(byte: u8) -> u32
-    ensures { λ r. ⌜ r ≤ 255 ⌝ }
-{
-    byte as u32
-}
-
 // The repeats that an input asks for; 0 where it is too short.
 fn repeats_in(input: &[u8]) -> u32 {
     if input.len() < 5 {
         return 0;
     }
-    wide(input[1]) + 256 * wide(input[2]) + 65536 * wide(input[3]) + 16777216 * wide(input[4])
+    (format::number_at(input, 1) + format::HALF_WORD * format::number_at(input, 3)) as u32
 }
 
 // The answer of the drains that an input asks for; 0 where it is too short.
@@ -54,7 +46,7 @@ fn drains_in(input: &[u8]) -> usize {
     if input.len() < 7 {
         return 0;
     }
-    let end = 7 + (wide(input[5]) + 256 * wide(input[6])) as usize;
+    let end = 7 + format::number_at(input, 5);
     if input.len() < end {
         return 0;
     }

@@ -1,11 +1,11 @@
 // What Build writes: of a links image its full image, or the line of its refusal.
-ghost use Rattle.written.specs.Written.{Writes, roomFor};
+ghost use Rattle.results.specs.Written.{Writes, roomFor};
 ghost use Rattle.built.specs.Builds.{longestBuild, outputOf};
 use refusal::Refusal;
-use written::Written;
+use results::Written;
 
 // How much it writes at the most.
-pub const LONGEST: usize = 9308;
+pub const LONGEST: usize = image::LONGEST;
 
 // What is written for this input, or 9 and nothing written where the longest finds no room.
 pub fn output(input: &[u8], out: &mut [u8]) -> Written
@@ -14,7 +14,7 @@ pub fn output(input: &[u8], out: &mut [u8]) -> Written
     if out.len() < LONGEST {
         return Written::NotWritten(Refusal::Short);
     }
-    let built = image::build(input, out);
+    let built = writing::build(input, out);
     match built {
         Written::NotWritten(r) => lines::refusal_line(r, out),
         Written::Bytes(m) => Written::Bytes(m),

@@ -13,15 +13,14 @@ use Rattle.finite.specs.Lists.{upFrom, tabulate}
 use Rattle.graph.specs.Network.{among, degree}
 use Rattle.graph.specs.Reach.{grow, spread, reach, covers, joined, connected, cut}
 use Rattle.network.specs.Table.{joins, linkedBy, linked}
-use Rattle.lawful.specs.Turn.{rises, falls, prohibited}
-use Rattle.lawful.specs.Entry.{leads, joining, layer, lowestLead, firstLayer, entry, after, follow, routeOf}
+use Rattle.lawful.specs.Turn.{rises, falls, prohibited, labelIn}
+use Rattle.lawful.specs.Entry.{leads, joining, layer, lowestLead, firstLayer, entry, freeAfter, follow, routeOf}
 use Rattle.rule.specs.Candidate.{room, candidate, choice}
-use Rattle.rule.specs.Labels.{labelIn, remains, give, stage, labelled, labelsOf}
+use Rattle.rule.specs.Labels.{remains, give, stage, labelled, labelsOf}
 use Rattle.turns.specs.Turns.{turnsThat, allTurns, prohibitedTurns}
 use Rattle.refusal.specs.declared.Verdict.the-variants.{Fine}
 use Rattle.cabling.specs.Cabling.{Cabling, links, Good}
-use Rattle.cabling.specs.Faults.{counted, shaped, badEnds, notAbove, badPair, crowded, unreached, nodeFault, linkFault, faultOf}
-use Rattle.cabling.specs.Faults as faults
+use Rattle.cabling.specs.Faults.{isCounted, isShaped, badEnds, notAbove, badPair, crowded, unreached, nodeFault, linkFault, faultOf, isAbove}
 use Rattle.cabling.proofs.Meaning.{fault-fine}
 use Rattle.rows.specs.Tables.{rowsOf}
 use Rattle.fabric.specs.Fabric.{labelsFor, rowsFor}
@@ -33,9 +32,9 @@ use Rattle.image.proofs.Images.{read-cabling, image-accepted}
 use Rattle.messages.specs.declared.Record.{Record}
 use Rattle.messages.specs.Fresh.{begunOf}
 use Rattle.messages.specs.Runs.{messagesIn, routeIn, allMoves}
-use Rattle.order.specs.Seed.{lookAt}
+use Rattle.seeds.specs.Seed.{lookAt}
 use Rattle.start.specs.Start.{fits, strange, listFault, startFault, freshOf}
-use Rattle.draining.specs.Order.{turnOf}
+use Rattle.turning.specs.Order.{turnOf}
 use Rattle.draining.specs.Drained.{drainOf}
 use Rattle.draining.proofs.Answers.{drain-record}
 use Rattle.draining.proofs.Meaning.{end-moves}
@@ -94,8 +93,8 @@ and-this r rest e m = ⊎-elim (λ q. subst⁻¹ Right q r) (rest e) (List·Mem�
 pub every-right : (e : Worked) → List·Memᴰ e worked → Right e
 unfolding _&_ _or_ non same below sumTo any all least leastValue lowestAt leastBy has setOf without upFrom tabulate
     among degree grow spread reach covers joined connected cut joins linkedBy linked rises falls prohibited
-    leads joining layer lowestLead firstLayer entry after follow routeOf room candidate choice remains give stage labelled labelsOf turnsThat
-    faultOf linkFault nodeFault unreached crowded badPair notAbove faults.rises badEnds shaped counted
+    leads joining layer lowestLead firstLayer entry freeAfter follow routeOf room candidate choice remains give stage labelled labelsOf turnsThat
+    faultOf linkFault nodeFault unreached crowded badPair notAbove isAbove badEnds isShaped isCounted
     rowsOf entriesOf joinedUp imageFrom bodiesOf imageOf messagesIn routeIn allMoves fits strange listFault begunOf freshOf lookAt turnOf
 every-right =
     and-this (right link refl refl refl refl refl refl refl refl refl refl refl (λ full. refl))

@@ -1,4 +1,4 @@
--- 01, "Networks worked by hand": the constant table of those marked P.
+-- RULES 11.1: the constant table of the networks worked by hand.
 use mathlib.Core.List.{List, [], _∷_}
 use Prim.Native.Nat.{ℕ}
 use Rattle.cabling.specs.Cabling.{Cabling, cabled}
@@ -19,7 +19,8 @@ pub record Worked : Type 0 where
   pub moves : ℕ
   pub look : ℕ
 
--- "link 0-1: labels 1, 2. Its links image is 01 01 01 00 08 00 04 00 02 00 00 01", "its full bodies are 02 00 00 01, 01 02, 00 01 00 01, 00 FF 00 01; 40 bytes in all"
+-- RULES 11.1: "Link 0-1: labels 1, 2. Its links image is 01 01 01 00 08 00 04 00 02 00 00 01. The bodies of its full image are 02 00 00 01, 01 02, 00 01 00 01,
+-- 00 FF 00 01; it has 40 bytes."
 abbrev pub link : Worked
 link = record {
   cabling = cabled 2 (0 ∷ 1 ∷ []);
@@ -36,7 +37,7 @@ link = record {
   look = 0;
 }
 
--- "triangle: labels 1, 2, 3; T = 3, W = 1"
+-- RULES 11.1: "Triangle: labels 1, 2, 3; T = 3, W = 1."
 abbrev pub triangle : Worked
 triangle = record {
   cabling = cabled 3 (0 ∷ 1 ∷ 0 ∷ 2 ∷ 1 ∷ 2 ∷ []);
@@ -53,7 +54,7 @@ triangle = record {
   look = 0;
 }
 
--- "path 0-1-2: labels 1, 2, 3; W = 0"
+-- RULES 11.1: "Path 0-1-2: labels 1, 2, 3; W = 0."
 abbrev pub path : Worked
 path = record {
   cabling = cabled 3 (0 ∷ 1 ∷ 1 ∷ 2 ∷ []);
@@ -70,8 +71,8 @@ path = record {
   look = 0;
 }
 
--- the ring 0-1, 0-3, 1-2, 2-3: "labels 1, 2, 3, 4", "its falling rows: 0 - - -; 0 1 - -; 1 1 2 -; 0 2 2 3 (- is 255)", the free rows that Show prints,
--- and "messages 0→2, 1→3, 2→0, 3→1 on the ring take 12 successful moves. From seed 0 the drain looks at message 2 first."
+-- RULES 11.1: "Ring 0-1, 0-3, 1-2, 2-3: labels 1, 2, 3, 4; falling rows 0 - - -; 0 1 - -; 1 1 2 -; 0 2 2 3 (- is 255).", the free rows that Show prints, and
+-- "The ring's messages 0→2, 1→3, 2→0, 3→1 take 12 successful moves. From seed 0 the drain looks at message 2 first."
 abbrev pub ring : Worked
 ring = record {
   cabling = cabled 4 (0 ∷ 1 ∷ 0 ∷ 3 ∷ 1 ∷ 2 ∷ 2 ∷ 3 ∷ []);
@@ -88,7 +89,7 @@ ring = record {
   look = 2;
 }
 
--- "hub 0 with leaves 1, 2, 3: labels 3, 1, 2, 4"
+-- RULES 11.1: "Hub 0 with leaves 1, 2, 3: labels 3, 1, 2, 4."
 abbrev pub hub : Worked
 hub = record {
   cabling = cabled 4 (0 ∷ 1 ∷ 0 ∷ 2 ∷ 0 ∷ 3 ∷ []);
@@ -105,7 +106,7 @@ hub = record {
   look = 0;
 }
 
--- "four nodes, all linked: T = 12, W = 4"
+-- RULES 11.1: "Four nodes, all linked: T = 12, W = 4."
 abbrev pub all-four : Worked
 all-four = record {
   cabling = cabled 4 (0 ∷ 1 ∷ 0 ∷ 2 ∷ 0 ∷ 3 ∷ 1 ∷ 2 ∷ 1 ∷ 3 ∷ 2 ∷ 3 ∷ []);
@@ -122,8 +123,8 @@ all-four = record {
   look = 0;
 }
 
--- "nodes 0 and 1 each linked to 2, 3, 4, 5; nodes 6 to 10, 11 to 15, 16 to 20, 21 to 25 complete among themselves; 2-6, 3-11, 4-16, 5-21. Node 7 is labelled
--- first: 0 and 1 also have degree 4 but 12 > 8."
+-- RULES 11.1: "26 nodes: 0 and 1 each linked to 2, 3, 4, 5; 6 to 10, 11 to 15, 16 to 20 and 21 to 25 complete among themselves; 2-6, 3-11, 4-16, 5-21. Node 7
+-- is labelled first: 0 and 1 have degree 4 too, but 12 > 8."
 abbrev pub blocks : Worked
 blocks = record {
   cabling = cabled 26 (0 ∷ 2 ∷ 0 ∷ 3 ∷ 0 ∷ 4 ∷ 0 ∷ 5 ∷ 1 ∷ 2 ∷ 1 ∷ 3 ∷ 1 ∷ 4 ∷ 1 ∷ 5 ∷ 2 ∷ 6 ∷ 3 ∷ 11 ∷ 4 ∷ 16 ∷ 5 ∷ 21 ∷ 6 ∷ 7 ∷ 6 ∷ 8 ∷ 6 ∷ 9 ∷ 6 ∷ 10 ∷ 7 ∷ 8 ∷ 7 ∷ 9 ∷ 7 ∷ 10 ∷ 8 ∷ 9 ∷ 8 ∷ 10 ∷ 9 ∷ 10 ∷ 11 ∷ 12 ∷ 11 ∷ 13 ∷ 11 ∷ 14 ∷ 11 ∷ 15 ∷ 12 ∷ 13 ∷ 12 ∷ 14 ∷ 12 ∷ 15 ∷ 13 ∷ 14 ∷ 13 ∷ 15 ∷ 14 ∷ 15 ∷ 16 ∷ 17 ∷ 16 ∷ 18 ∷ 16 ∷ 19 ∷ 16 ∷ 20 ∷ 17 ∷ 18 ∷ 17 ∷ 19 ∷ 17 ∷ 20 ∷ 18 ∷ 19 ∷ 18 ∷ 20 ∷ 19 ∷ 20 ∷ 21 ∷ 22 ∷ 21 ∷ 23 ∷ 21 ∷ 24 ∷ 21 ∷ 25 ∷ 22 ∷ 23 ∷ 22 ∷ 24 ∷ 22 ∷ 25 ∷ 23 ∷ 24 ∷ 23 ∷ 25 ∷ 24 ∷ 25 ∷ []);

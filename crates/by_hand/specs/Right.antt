@@ -10,7 +10,7 @@ use Rattle.format.specs.Contents.{linksKinds, fullKinds}
 use Rattle.image.specs.Image.{imageOf, kindsOf}
 use Rattle.messages.specs.declared.Record.{Record}
 use Rattle.start.specs.Start.{freshOf}
-use Rattle.draining.specs.Order.{turnOf}
+use Rattle.turning.specs.Order.{turnOf}
 use Rattle.draining.specs.Drained.{drainOf}
 use Rattle.by_hand.specs.Networks.{Worked}
 
@@ -22,17 +22,17 @@ Given (x ∷ given) l = l ≡ x ∷ given
 pub record Right (e : Worked) : Type 0 where
   -- a cabling that no call refuses
   pub good : Good (e .cabling)
-  -- "labels 1, 2, 3; T = 3, W = 1", "Node 7 is labelled first"
+  -- RULES 11.1: "labels 1, 2, 3; T = 3, W = 1", "Node 7 is labelled first"
   pub labels : labelsFor (e .cabling) ≡ e .labels
   pub turns : allTurns (e .cabling .nodes) (links (e .cabling)) ≡ e .turns
   pub prohibited : prohibitedTurns (e .cabling .nodes) (links (e .cabling)) (labelFor (e .cabling)) ≡ e .prohibited
   pub first : labelFor (e .cabling) (e .first) ≡ 1
-  -- "its falling rows"; "Its links image", "its full bodies"
+  -- RULES 11.1: "falling rows", "Its links image", "The bodies of its full image"
   pub free : Given (e .free) (rowsFor (e .cabling) true)
   pub falling : Given (e .falling) (rowsFor (e .cabling) false)
   pub links-image : Given (e .links-image) (imageOf linksKinds (e .cabling))
   pub full-image : Given (e .full-image) (imageOf fullKinds (e .cabling))
-  -- "take 12 successful moves": so many a drain counts over either image, whatever its seed and whatever the record was
+  -- RULES 11.1: "take 12 successful moves": so many a drain counts over either image, whatever its seed and whatever the record was
   pub moves : (full : Bool) (old : Record) (seed : ℕ) → drainOf old (imageOf (kindsOf full) (e .cabling)) (e .messages) seed .«record» .moves ≡ e .moves
-  -- "From seed 0 the drain looks at message 2 first": in its first turn
+  -- RULES 11.1: "From seed 0 the drain looks at message 2 first": in its first turn
   pub look : (full : Bool) → turnOf 0 (freshOf (imageOf (kindsOf full) (e .cabling)) (e .messages)) .look ≡ e .look

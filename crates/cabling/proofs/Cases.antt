@@ -8,20 +8,16 @@ use lib.ListN.{length}
 use Rattle.finite.specs.Truth.{below}
 use Rattle.finite.specs.Search.{least}
 use Rattle.finite.proofs.Truth.{lt-below, le-below}
+use Rattle.finite.proofs.Decide.{by, pass, fail, least-is, decide-least}
 use Rattle.nodes.specs.Limits.{maxNodes, maxLinks}
 use Rattle.refusal.specs.declared.Refusal.{Refusal}
 use Rattle.refusal.specs.declared.Refusal.the-variants.{Count, Shape, Ends, Order, Crowded, Apart}
-use Rattle.refusal.specs.declared.Verdict.{Verdict}
 use Rattle.refusal.specs.declared.Verdict.the-variants.{Fine, Fault}
+use Rattle.refusal.proofs.Verdicts.{fine-fault}
 use Rattle.cabling.specs.Cabling.{Cabling, links, EndsFine}
 use Rattle.cabling.specs.Faults.{badPair, pairFault, crowded, unreached, nodeFault, linkFault, faultOf}
 use Rattle.cabling.specs.Verdicts.{Counted, Shaped, EndsBad, OrderBad, PairFine}
-use Rattle.cabling.proofs.Decide.{by, pass, fail, least-is, decide-least}
 use Rattle.cabling.proofs.Tests.{decide-counted, decide-shaped, decide-ends, decide-order, decide-pair}
-
--- a verdict is not both fine and a fault
-clash : {A : Type 0} {v : Verdict} {r : Refusal} → v ≡ Fine → v ≡ Fault r → A
-clash f h = let z : _≡_ {A = ℕ} 0 1 = cc in absurd (omega arith)
 
 -- ---- a pair
 
@@ -40,12 +36,12 @@ module _ (c : Cabling) (p : ℕ) where
 
   -- and back
   pub fault-pair : {r : Refusal} → pairFault c p ≡ Fault r → EndsBad c p ⊎ OrderBad (c .pairs) p
-  fault-pair h = by (decide-ends c p) inl (λ e. by (decide-order (c .pairs) p) inr (λ o. clash (pair-fine (e, o)) h))
+  fault-pair h = by (decide-ends c p) inl (λ e. by (decide-order (c .pairs) p) inr (λ o. fine-fault (pair-fine (e, o)) h))
 
   pub fine-pair : pairFault c p ≡ Fine → PairFine c p
   fine-pair h =
-      by (decide-ends c p) (λ e. clash h (pair-ends e))
-      (λ e. by (decide-order (c .pairs) p) (λ o. clash h (pair-order e o)) (λ o. (e, o)))
+      by (decide-ends c p) (λ e. fine-fault h (pair-ends e))
+      (λ e. by (decide-order (c .pairs) p) (λ o. fine-fault h (pair-order e o)) (λ o. (e, o)))
 
 -- ---- the first bad pair, and none
 

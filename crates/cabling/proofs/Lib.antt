@@ -1,4 +1,3 @@
-pub mod Decide
 pub mod Tests
 pub mod Cases
 pub mod Apart
@@ -7,4 +6,4 @@ pub mod Width
 pub mod Rising
 pub mod Meaning
 pub mod Example
-pub mod Tight
+pub mod Determined

@@ -1,10 +1,11 @@
--- The verdict means what 01 says: for each verdict, `faultOf` answers it exactly where its row of specs/Verdicts.antt holds.
+-- The verdict means what RULES 9.1 says: for each verdict, `faultOf` answers it exactly where its row of specs/Verdicts.antt holds.
 use mathlib.Core.Path.{_≡_, sym, _∙_, subst}
 use mathlib.Core.Logic.{_↔_, _⊎_, inl, inr, ⊎-elim}
 use Prim.Native.Nat.{ℕ, _+_, _-_, _/_, _≤_, _<_}
 use native.Mathlib.Nat.{le-refl}
 use native.Mathlib.Omega.{arith}
 use lib.ListN.{length}
+use Rattle.finite.proofs.Decide.{Decides, by, least-is, least-none, decide-least, decide-same}
 use Rattle.graph.specs.Network.{Walk}
 use Rattle.nodes.specs.Limits.{maxDegree}
 use Rattle.refusal.specs.declared.Refusal.the-variants.{Count, Shape, Ends, Order, Crowded, Apart, Short}
@@ -13,7 +14,6 @@ use Rattle.refusal.specs.declared.Verdict.the-variants.{Fine, Fault}
 use Rattle.cabling.specs.Cabling.{Cabling, links, linksAt, Above, Good}
 use Rattle.cabling.specs.Faults.{linkFault, nodeFault, unreached, faultOf}
 use Rattle.cabling.specs.Verdicts.{EndsBad, OrderBad, Passed, PairsFine, Means, means-fine, means-count, means-shape, means-ends, means-order, means-crowded, means-apart}
-use Rattle.cabling.proofs.Decide.{Decides, by, least-is, least-none, decide-least, decide-same}
 use Rattle.cabling.proofs.Tests.{decide-counted, decide-shaped, decide-ends, decide-pair, decide-crowded, decide-unreached}
 use Rattle.cabling.proofs.Cases.{pair-ends, pair-order, link-bad, link-fine, node-crowded, node-apart, node-fine, whole-count, whole-shape, whole-links}
 use Rattle.cabling.proofs.Joined.{ends-network, walks-connected, connected-walks}

@@ -7,8 +7,8 @@ use native.Mathlib.Nat.{not-suc-le-zero}
 use native.Mathlib.Numerals.{add-one}
 use native.Mathlib.Omega.{arith}
 use lib.ListN.{length}
+use Rattle.finite.proofs.Decide.{by, decide-below, decide-same}
 use Rattle.cabling.specs.Cabling.{Cabling, lowEnd, highEnd, Above, Good}
-use Rattle.cabling.proofs.Decide.{by, decide-below, decide-same}
 
 above-trans : (pairs : List ℕ) (p q r : ℕ) → Above pairs p q → Above pairs q r → Above pairs p r
 above-trans pairs p q r =

@@ -9,30 +9,30 @@ use Rattle.finite.specs.Truth.{same}
 use Rattle.finite.specs.Sum.{count}
 use Rattle.finite.specs.Sets.{has}
 use Rattle.finite.proofs.Truth.{no-tf, same-eq, same-refl}
+use Rattle.finite.proofs.Decide.{Decides, decide-below, decide-leb, decide-same, decide-eqb, decide-non, decide-not, decide-and, decide-or}
 use Rattle.graph.specs.Network.{Network, Walk}
 use Rattle.graph.specs.Reach.{reach}
 use Rattle.graph.proofs.Reach.{reach-from, reach-walk}
 use Rattle.nodes.specs.Limits.{maxNodes, maxLinks, maxDegree}
 use Rattle.cabling.specs.Cabling.{Cabling, EndsFine, Above}
-use Rattle.cabling.specs.Faults.{counted, shaped, badEnds, rises, notAbove, badPair, crowded, unreached}
+use Rattle.cabling.specs.Faults.{isCounted, isShaped, badEnds, isAbove, notAbove, badPair, crowded, unreached}
 use Rattle.cabling.specs.Verdicts.{Counted, Shaped, EndsBad, OrderBad, PairFine}
-use Rattle.cabling.proofs.Decide.{Decides, decide-below, decide-leb, decide-same, decide-eqb, decide-non, decide-not, decide-and, decide-or}
 
-pub decide-counted : (n : ℕ) → Decides (counted n) (Counted n) ((n < 2) ⊎ (maxNodes < n))
-unfolding counted
+pub decide-counted : (n : ℕ) → Decides (isCounted n) (Counted n) ((n < 2) ⊎ (maxNodes < n))
+unfolding isCounted
 decide-counted n = decide-and (decide-leb 2 n) (decide-leb n maxNodes)
 
-pub decide-shaped : (pairs : List ℕ) → Decides (shaped pairs) (Shaped pairs) ((length pairs % 2 ≡ 0 → ⊥) ⊎ (2 * maxLinks < length pairs))
-unfolding shaped
+pub decide-shaped : (pairs : List ℕ) → Decides (isShaped pairs) (Shaped pairs) ((length pairs % 2 ≡ 0 → ⊥) ⊎ (2 * maxLinks < length pairs))
+unfolding isShaped
 decide-shaped pairs = decide-and (decide-eqb _ _) (decide-leb _ _)
 
-pub decide-rises : (pairs : List ℕ) (p q : ℕ) → Decides (rises pairs p q) (Above pairs p q) (Above pairs p q → ⊥)
-unfolding rises
-decide-rises pairs p q = decide-not (decide-or (decide-below _ _) (decide-and (decide-same _ _) (decide-below _ _)))
+pub decide-above : (pairs : List ℕ) (p q : ℕ) → Decides (isAbove pairs p q) (Above pairs p q) (Above pairs p q → ⊥)
+unfolding isAbove
+decide-above pairs p q = decide-not (decide-or (decide-below _ _) (decide-and (decide-same _ _) (decide-below _ _)))
 
 pub decide-order : (pairs : List ℕ) (p : ℕ) → Decides (notAbove pairs p) (OrderBad pairs p) ((p ≡ 0) ⊎ Above pairs (p - 1) p)
 unfolding notAbove
-decide-order pairs p = decide-and (decide-non (decide-same p 0)) (decide-non (decide-rises pairs (p - 1) p))
+decide-order pairs p = decide-and (decide-non (decide-same p 0)) (decide-non (decide-above pairs (p - 1) p))
 
 module _ (c : Cabling) (p : ℕ) where
   pub decide-ends : Decides (badEnds c p) (EndsBad c p) (EndsFine c p)

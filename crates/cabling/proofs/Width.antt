@@ -8,27 +8,25 @@ use lib.ListN.{length}
 use Rattle.finite.specs.Truth.{below}
 use Rattle.finite.proofs.Sum.{count-cut}
 use Rattle.finite.proofs.Search.{least-cong}
+use Rattle.finite.proofs.Decide.{agree}
 use Rattle.graph.specs.Network.{Network}
+use Rattle.graph.proofs.Walk.{network-wider}
 use Rattle.nodes.specs.Limits.{maxNodes, maxDegree}
 use Rattle.network.specs.Table.{edgeOf, tableOf}
 use Rattle.refusal.specs.declared.Refusal.the-variants.{Crowded, Apart}
 use Rattle.refusal.specs.declared.Verdict.the-variants.{Fine, Fault}
 use Rattle.cabling.specs.Cabling.{Cabling, links, EndsFine}
 use Rattle.cabling.specs.Faults.{crowded, unreached, nodeFault}
-use Rattle.cabling.proofs.Decide.{agree}
 use Rattle.cabling.proofs.Tests.{decide-unreached}
 use Rattle.cabling.proofs.Joined.{ends-network, ends-table}
 
 module _ (w n : ℕ) (edge : ℕ → ℕ → Bool) (net : Network n edge) (room : n ≤ w) where
-  wide : Network w edge
-  wide = record { undirected = net .undirected; no-loop = net .no-loop; inside = λ a b h. let l = net .inside a b h in omega arith }
-
   crowded-width : (v : ℕ) → crowded w edge v ≡ crowded n edge v
   unfolding crowded
   crowded-width v = ap (below maxDegree) (count-cut n w (edge v) room (net .inside v))
 
   unreached-width : (v : ℕ) → v < n → unreached w edge v ≡ unreached n edge v
-  unreached-width v l = agree (decide-unreached w edge wide (omega arith) v) (decide-unreached n edge net (omega arith) v) (λ h. h) (λ h. h)
+  unreached-width v l = agree (decide-unreached w edge (network-wider n w room edge net) (omega arith) v) (decide-unreached n edge net (omega arith) v) (λ h. h) (λ h. h)
 
   pub node-width : nodeFault w edge n ≡ nodeFault n edge n
   unfolding nodeFault

@@ -1,4 +1,4 @@
--- 01: "A cabling is N and the list of pairs, each pair and their order as in kind 1." What a good one is, in words.
+-- RULES 6.4: "A cabling is N and the list of the pairs, each of them and their order as in kind 1." What a good one is, in words.
 use mathlib.Core.Path.{_≡_}
 use mathlib.Core.Bool.{Bool}
 use mathlib.Core.List.{List}
@@ -32,24 +32,24 @@ lowEnd pairs p = getD pairs (2 * p) 0
 abbrev pub highEnd : List ℕ → ℕ → ℕ
 highEnd pairs p = getD pairs (2 * p + 1) 0
 
--- "pairs of bytes (a, b) with a < b", both nodes
+-- RULES 6.2: "pairs of bytes (a, b) with a < b", both nodes
 abbrev pub EndsFine : Cabling → ℕ → Type 0
 EndsFine c p = (lowEnd (c .pairs) p < highEnd (c .pairs) p) × (highEnd (c .pairs) p < c .nodes)
 
--- pair q is above pair p: "strictly rising order, first by a, then by b"
+-- pair q is above pair p, RULES 6.2: "in strictly rising order, by a and then by b"
 abbrev pub Above : List ℕ → ℕ → ℕ → Type 0
 Above pairs p q =
     (lowEnd pairs p < lowEnd pairs q) ⊎ ((lowEnd pairs p ≡ lowEnd pairs q) × (highEnd pairs p < highEnd pairs q))
 
 pub record Good (c : Cabling) : Type 0 where
-  -- "2 to 64 nodes"
+  -- RULES 3.1: "2 to 64 nodes"
   pub many : 2 ≤ c .nodes
   pub few : c .nodes ≤ maxNodes
-  -- "Links are undirected, at most 512", two bytes each
+  -- RULES 3.1: "at most 512 links", two bytes each
   pub even : length (c .pairs) % 2 ≡ 0
   pub short : length (c .pairs) ≤ 2 * maxLinks
   pub ends : (p : ℕ) → p < length (c .pairs) / 2 → EndsFine c p
   pub rising : (p : ℕ) → p + 1 < length (c .pairs) / 2 → Above (c .pairs) p (p + 1)
-  -- "at most 16 links at a node"
+  -- RULES 3.1: "a node has at most 16 links"
   pub sparse : (v : ℕ) → v < c .nodes → linksAt c v ≤ maxDegree
   pub connected : Connected (links c) (λ v. below v (c .nodes))

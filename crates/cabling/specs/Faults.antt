@@ -1,4 +1,4 @@
--- The checks of a cabling in 01's order: 2, 3, then the first bad pair, 4 before 5, then 6, 7. The first fault is the verdict.
+-- The checks of a cabling in the order of RULES 9.2: 2, 3, then the first bad pair, 4 before 5, then 6, 7. The first fault is the verdict.
 use mathlib.Core.Bool.{Bool, true, false}
 use mathlib.Core.List.{List}
 use Prim.Native.Nat.{ℕ, _*_, _-_, _/_, _%_}
@@ -15,26 +15,26 @@ use Rattle.refusal.specs.declared.Verdict.{Verdict}
 use Rattle.refusal.specs.declared.Verdict.the-variants.{Fine, Fault}
 use Rattle.cabling.specs.Cabling.{Cabling, links, lowEnd, highEnd}
 
--- 2: "N not in 2 to 64"
-unfoldable pub counted : ℕ → Bool
-counted n = leb 2 n & leb n maxNodes
+-- 2, RULES 9.1: "N not 2 to 64"
+unfoldable pub isCounted : ℕ → Bool
+isCounted n = leb 2 n & leb n maxNodes
 
--- 3: "pairs of odd length or over 1,024 bytes"
-unfoldable pub shaped : List ℕ → Bool
-shaped pairs = eqb (length pairs % 2) 0 & leb (length pairs) (2 * maxLinks)
+-- 3, RULES 9.1: "pairs of odd length or over 1,024 bytes"
+unfoldable pub isShaped : List ℕ → Bool
+isShaped pairs = eqb (length pairs % 2) 0 & leb (length pairs) (2 * maxLinks)
 
--- 4: "a pair with a ≥ b or b ≥ N"
+-- 4, RULES 9.1: "a pair with a ≥ b or b ≥ N"
 unfoldable pub badEnds : Cabling → ℕ → Bool
 badEnds c p = non (below (lowEnd (c .pairs) p) (highEnd (c .pairs) p)) or non (below (highEnd (c .pairs) p) (c .nodes))
 
 -- pair q is above pair p
-unfoldable pub rises : List ℕ → ℕ → ℕ → Bool
-rises pairs p q =
+unfoldable pub isAbove : List ℕ → ℕ → ℕ → Bool
+isAbove pairs p q =
     below (lowEnd pairs p) (lowEnd pairs q) or same (lowEnd pairs p) (lowEnd pairs q) & below (highEnd pairs p) (highEnd pairs q)
 
--- 5: "a pair not above the one before"
+-- 5, RULES 9.1: "a pair that is not above the one before"
 unfoldable pub notAbove : List ℕ → ℕ → Bool
-notAbove pairs p = non (same p 0) & non (rises pairs (p - 1) p)
+notAbove pairs p = non (same p 0) & non (isAbove pairs (p - 1) p)
 
 unfoldable pub badPair : Cabling → ℕ → Bool
 badPair c p = badEnds c p or notAbove (c .pairs) p
@@ -47,11 +47,11 @@ pairFault c p =
       | false ↦ elim (notAbove (c .pairs) p) [ true ↦ Fault (Order p) | false ↦ Fine ]
     ]
 
--- 6: "more than 16 links at a node", counted at the width w
+-- 6, RULES 9.1: "more than 16 links at a node", counted at the width w
 unfoldable pub crowded : ℕ → (ℕ → ℕ → Bool) → ℕ → Bool
 crowded w edge v = below maxDegree (count w (edge v))
 
--- 7: "not reached from 0", at the width w
+-- 7, RULES 9.1: "not reached from 0", at the width w
 unfoldable pub unreached : ℕ → (ℕ → ℕ → Bool) → ℕ → Bool
 unreached w edge v = non (has (reach w edge (same 0)) v)
 
@@ -72,7 +72,7 @@ linkFault c =
 
 unfoldable pub faultOf : Cabling → Verdict
 faultOf c =
-    elim (counted (c .nodes)) [
+    elim (isCounted (c .nodes)) [
       | false ↦ Fault Count
-      | true ↦ elim (shaped (c .pairs)) [ false ↦ Fault Shape | true ↦ linkFault c ]
+      | true ↦ elim (isShaped (c .pairs)) [ false ↦ Fault Shape | true ↦ linkFault c ]
     ]

@@ -1,4 +1,4 @@
--- What each verdict says of a cabling: 01's table of refusals, row by row, in the order that stands below it.
+-- What each verdict says of a cabling: the table of RULES 9.1, row by row, in the order of RULES 9.2.
 use mathlib.Core.Path.{_≡_}
 use mathlib.Core.List.{List}
 use mathlib.Core.Logic.{_⊎_}
@@ -40,16 +40,16 @@ PairsFine c = Passed c (length (c .pairs) / 2)
 -- no other refusal is of a cabling
 pub data Means (c : Cabling) : Verdict → Type 0 where
   means-fine : Good c → Means c Fine
-  -- "N not in 2 to 64"
+  -- RULES 9.1: "N not 2 to 64"
   means-count : (c .nodes < 2) ⊎ (maxNodes < c .nodes) → Means c (Fault Count)
-  -- "pairs of odd length or over 1,024 bytes"
+  -- RULES 9.1: "pairs of odd length or over 1,024 bytes"
   means-shape : Counted (c .nodes) → (length (c .pairs) % 2 ≡ 0 → ⊥) ⊎ (2 * maxLinks < length (c .pairs)) → Means c (Fault Shape)
-  -- "the first bad pair, 4 before 5": "a pair with a ≥ b or b ≥ N", "a pair not above the one before"
+  -- RULES 9.2: "the first bad pair, 4 before 5"; RULES 9.1: "a pair with a ≥ b or b ≥ N", "a pair that is not above the one before"
   means-ends : {p : ℕ} → p < length (c .pairs) / 2 → Passed c p → EndsBad c p → Means c (Fault (Ends p))
   means-order : {p : ℕ} → p < length (c .pairs) / 2 → Passed c p → EndsFine c p → OrderBad (c .pairs) p → Means c (Fault (Order p))
-  -- "more than 16 links at a node", the "lowest such node"
+  -- RULES 9.1: "more than 16 links at a node", "the lowest such node"
   means-crowded : {v : ℕ} → PairsFine c → v < c .nodes → maxDegree < linksAt c v → ((u : ℕ) → u < v → linksAt c u ≤ maxDegree)
       → Means c (Fault (Crowded v))
-  -- "not connected", the "lowest node not reached from 0"
+  -- RULES 9.1: "the network is not connected", "the lowest node not reached from 0"
   means-apart : {v : ℕ} → PairsFine c → ((u : ℕ) → u < c .nodes → linksAt c u ≤ maxDegree) → v < c .nodes
       → (Walk (links c) 0 v → ⊥) → ((u : ℕ) → u < v → Walk (links c) 0 u) → Means c (Fault (Apart v))

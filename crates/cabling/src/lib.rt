@@ -1,11 +1,11 @@
-// The checks of a cabling, in 01's order: the first fault is the verdict.
+// The checks of a cabling, in the order of RULES 9.2: the first fault is the verdict.
 ghost use mathlib.Core.Path.{_≡_};
 ghost use Prim.Native.Nat.{_≤_};
 ghost use Rattle.finite.specs.Search.{least};
 ghost use Rattle.nodes.specs.Limits.{maxNodes};
 ghost use Rattle.network.specs.Table.{edgeOf};
 ghost use Rattle.cabling.specs.Cabling.{cabled, lowEnd, highEnd};
-ghost use Rattle.cabling.specs.Faults.{badEnds, rises, notAbove, pairFault, crowded, unreached, nodeFault, linkFault, faultOf};
+ghost use Rattle.cabling.specs.Faults.{badEnds, isAbove, notAbove, pairFault, crowded, unreached, nodeFault, linkFault, faultOf};
 use nodes::MAX_DEGREE;
 use nodes::MAX_LINKS;
 use nodes::MAX_NODES;
@@ -17,7 +17,7 @@ fn low_end(pairs: &[u8], p: usize) -> usize
     ensures { λ r. ⌜ r ≡ lowEnd (now (pairs .entry)) p ⌝ }
 {
     if p < pairs.len() {
-        network::byte_at(pairs, 2 * p)
+        slices::byte_at(pairs, 2 * p)
     } else {
         0
     }
@@ -28,7 +28,7 @@ fn high_end(pairs: &[u8], p: usize) -> usize
     ensures { λ r. ⌜ r ≡ highEnd (now (pairs .entry)) p ⌝ }
 {
     if p < pairs.len() {
-        network::byte_at(pairs, 2 * p + 1)
+        slices::byte_at(pairs, 2 * p + 1)
     } else {
         0
     }
@@ -46,8 +46,8 @@ fn bad_ends(n: usize, pairs: &[u8], p: usize) -> bool
 }
 
 // Is pair q above pair p, first by a, then by b?
-fn rises(pairs: &[u8], p: usize, q: usize) -> bool
-    ensures { λ r. ⌜ r ≡ rises (now (pairs .entry)) p q ⌝ }
+fn is_above(pairs: &[u8], p: usize, q: usize) -> bool
+    ensures { λ r. ⌜ r ≡ isAbove (now (pairs .entry)) p q ⌝ }
 {
     let a = low_end(pairs, p);
     let b = low_end(pairs, q);
@@ -65,7 +65,7 @@ fn not_above(pairs: &[u8], p: usize) -> bool
     if p == 0 {
         false
     } else {
-        !rises(pairs, p - 1, p)
+        !is_above(pairs, p - 1, p)
     }
 }
 

@@ -2,7 +2,7 @@
 use format::Entry;
 use messages::Answer;
 use refusal::Refusal;
-use written::Written;
+use results::Written;
 
 pub fn word(w: &[u8]) {
     io::write_all(1, w);

@@ -16,7 +16,7 @@ pub fn behind(s: &[u8], size: usize) -> &[u8] {
     if size <= s.len() { &s[size..] } else { &s[..0] }
 }
 
-// The bytes of an argument that says its length first, nothing where there are fewer. A length has 32 bits, since 01 speaks of images over 65,535 bytes;
+// The bytes of an argument that says its length first, nothing where there are fewer. A length has 32 bits, since RULES 9.1 speaks of images over 65,535 bytes;
 // what is read holds 131,072.
 pub fn bytes(args: &[u8]) -> &[u8] {
     front(behind(args, 4), double(args, 0))
@@ -32,7 +32,7 @@ pub fn double(args: &[u8], at: usize) -> usize
     ensures { λ r. ⌜ r ≤ 4294967295 ⌝ }
 {
     let low = format::number_at(args, at);
-    low + 65536 * format::number_at(behind(args, 2), at)
+    low + format::HALF_WORD * format::number_at(behind(args, 2), at)
 }
 
 // A number of 64 bits, low byte first.

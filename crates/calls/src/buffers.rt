@@ -1,7 +1,7 @@
 // Calls that write into a lent buffer: route, read, write and build. Each prints its answer, and then the whole buffer.
 use crate::answers;
 use crate::arguments;
-use image::Outcome;
+use reading::Outcome;
 
 // Before the call byte i is 7 i + 13, its low byte.
 fn fill(buffer: &mut [u8]) {
@@ -52,7 +52,7 @@ fn read_line(outcome: Outcome) {
 
 fn read_into(image: &[u8], buffer: &mut [u8]) {
     fill(buffer);
-    read_line(image::read(image, buffer));
+    read_line(reading::read(image, buffer));
     buffer_line(buffer);
 }
 
@@ -69,7 +69,7 @@ pub fn read(args: &[u8]) -> bool {
 
 fn wrote(n: usize, pairs: &[u8], full: bool, buffer: &mut [u8]) {
     fill(buffer);
-    answers::written(b"wrote", image::write(n, pairs, full, buffer));
+    answers::written(b"wrote", writing::write(n, pairs, full, buffer));
     buffer_line(buffer);
 }
 
@@ -92,7 +92,7 @@ pub fn write(args: &[u8]) -> bool {
 
 fn built(image: &[u8], buffer: &mut [u8]) {
     fill(buffer);
-    answers::written(b"built", image::build(image, buffer));
+    answers::written(b"built", writing::build(image, buffer));
     buffer_line(buffer);
 }
 

@@ -2,13 +2,14 @@
 ghost use Prim.Native.Nat.{_≤_};
 use crate::answers;
 use crate::arguments;
+use messages::MAX_MESSAGES;
 use messages::Record;
 use nodes::MAX_NODES;
 use refusal::Refusal;
 use refusal::Verdict;
 
-// More moves than 256 messages can make, of at most 63 hops and a delivery each.
-const MOST_MOVES: usize = 16640;
+// More moves than the most messages can make, of fewer hops than nodes and a delivery each.
+const MOST_MOVES: usize = MAX_MESSAGES * (MAX_NODES + 1);
 
 // The messages that are marked, and the line's end.
 fn marked(bytes: &[u8]) {
@@ -53,7 +54,7 @@ fn state(record: Record) {
 
 // A start on the record; its line, and the record after it.
 fn begun(record: Record, image: &[u8], list: &[u8]) -> Record {
-    let started = moves::started(record, image, list);
+    let started = lent::started(record, image, list);
     let verdict = started.verdict;
     let after = started.record;
     match verdict {
@@ -68,7 +69,7 @@ fn begun(record: Record, image: &[u8], list: &[u8]) -> Record {
 fn stepped(record: Record, named: &[u8]) -> Record {
     let mut last = record;
     for i in 0..named.len() / 2 {
-        let moved = moves::moved(last, format::number_at(named, 2 * i));
+        let moved = lent::moved(last, format::number_at(named, 2 * i));
         let after = moved.record;
         last = after;
         let answer = moved.answer;
@@ -112,7 +113,7 @@ fn whole(args: &[u8]) -> bool {
 
 // The rounds one after the other, all on one record.
 fn rounds(args: &[u8]) {
-    let mut last = machine::blank();
+    let mut last = records::blank();
     let mut at: usize = 0;
     while at < args.len() {
         let here = &args[at..];
@@ -136,10 +137,10 @@ fn turned(record: Record, seed: u32) {
     let mut last = record;
     let mut next = seed;
     for k in 0..MOST_MOVES {
-        if machine::all_delivered(last) {
+        if records::all_delivered(last) {
             break;
         }
-        let t = draining::turn(next, last);
+        let t = turning::turn(next, last);
         next = t.seed;
         let after = t.record;
         last = after;
@@ -158,7 +159,7 @@ fn drain(input: &[u8]) {
         return;
     }
     let list = arguments::behind(rest, 4);
-    let started = moves::started(machine::blank(), arguments::front(behind, size), list);
+    let started = lent::started(records::blank(), arguments::front(behind, size), list);
     let verdict = started.verdict;
     let record = started.record;
     match verdict {

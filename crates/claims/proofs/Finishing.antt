@@ -8,10 +8,9 @@ use lib.ListN.{length}
 use Rattle.finite.specs.Truth.{_&_, _or_, non, same}
 use Rattle.finite.specs.Sum.{when}
 use Rattle.finite.proofs.Truth.{no-tf, bcase, or-l, or-false, same-eq, same-ne, ne-same, same-refl}
-use Rattle.finite.proofs.Sum.{sum-cong, when-true, when-false}
-use Rattle.claims.specs.Claims.{Progress, Keeps, among, holds, finishing, Lawful, Exclusive, made}
+use Rattle.finite.proofs.Sum.{sum-cong, when-true, when-false, sum-one-more}
+use Rattle.claims.specs.Claims.{Progress, Keeps, keptIn, holds, finishing, Lawful, Exclusive, made}
 use Rattle.claims.proofs.Holding.{done-free}
-use Rattle.claims.proofs.Counting.{sum-one-more}
 
 module _ (s : Progress) (m : ℕ) where
   pub done-here : finishing s m .done m ≡ true
@@ -52,7 +51,7 @@ module _ (itinerary : ℕ → List ℕ) (keeps : Keeps) (s : Progress) (m : ℕ)
   -- for the others nothing changes
   pub finishing-other : (c r : ℕ) → (m ≡ c → ⊥) → holds itinerary keeps (finishing s m) c r ≡ holds itinerary keeps s c r
   unfolding holds finishing
-  finishing-other c r d = ap (λ (b : Bool). non b & among (itinerary c) (λ i. keeps c i (s .taken c)) (s .taken c) r) (done-there s m c d)
+  finishing-other c r d = ap (λ (b : Bool). non b & keptIn (itinerary c) (λ i. keeps c i (s .taken c)) (s .taken c) r) (done-there s m c d)
 
   -- it holds nothing more
   pub finishing-free : (r : ℕ) → holds itinerary keeps (finishing s m) m r ≡ false

@@ -7,7 +7,7 @@ use lib.ListN.{getD}
 use Rattle.finite.specs.Truth.{_&_, same}
 use Rattle.finite.proofs.Truth.{no-tf, refute, and-l, and-r, and-true, non-true, true-non, same-eq}
 use Rattle.finite.proofs.Search.{any-some}
-use Rattle.claims.specs.Claims.{Progress, Keeps, among, holds}
+use Rattle.claims.specs.Claims.{Progress, Keeps, keptIn, holds}
 
 -- a claimant that is not done holds r: it took r as number `at`
 pub record Held (itinerary : ℕ → List ℕ) (keeps : Keeps) (s : Progress) (m r : ℕ) : Type 0 where
@@ -18,7 +18,7 @@ pub record Held (itinerary : ℕ → List ℕ) (keeps : Keeps) (s : Progress) (m
   pub is : getD (itinerary m) at 0 ≡ r
 
 pub holds-held : (itinerary : ℕ → List ℕ) (keeps : Keeps) (s : Progress) (m r : ℕ) → holds itinerary keeps s m r ≡ true → Held itinerary keeps s m r
-unfolding holds among
+unfolding holds keptIn
 holds-held itinerary keeps s m r h =
     let i = any-some (s .taken m) (λ i. keeps m i (s .taken m) & same (getD (itinerary m) i 0) r) (and-r _ _ h) in
     record { not-done = non-true _ (and-l _ _ h); at = i .at; before = i .low; kept = and-l _ _ (i .fact); is = same-eq _ _ (and-r _ _ (i .fact)) }
@@ -29,6 +29,6 @@ done-free itinerary keeps s m r d = refute _ (λ h. no-tf d (holds-held itinerar
 
 -- who is not done holds what it keeps of what it has taken
 pub undone-holds : (itinerary : ℕ → List ℕ) (keeps : Keeps) (s : Progress) (m r : ℕ) → s .done m ≡ false
-    → holds itinerary keeps s m r ≡ among (itinerary m) (λ i. keeps m i (s .taken m)) (s .taken m) r
+    → holds itinerary keeps s m r ≡ keptIn (itinerary m) (λ i. keeps m i (s .taken m)) (s .taken m) r
 unfolding holds
-undone-holds itinerary keeps s m r d = ap (λ (b : Bool). b & among (itinerary m) (λ i. keeps m i (s .taken m)) (s .taken m) r) (true-non d) ∙ and-true _
+undone-holds itinerary keeps s m r d = ap (λ (b : Bool). b & keptIn (itinerary m) (λ i. keeps m i (s .taken m)) (s .taken m) r) (true-non d) ∙ and-true _

@@ -10,11 +10,10 @@ use lib.ListN.{length, getD}
 use Rattle.finite.specs.Truth.{_&_, _or_, non, same}
 use Rattle.finite.specs.Sum.{when}
 use Rattle.finite.proofs.Truth.{no-tf, bcase, both, and-l, and-r, and-true, or-case, same-eq, same-ne, ne-same, same-refl}
-use Rattle.finite.proofs.Sum.{sum-cong, when-true, when-false}
+use Rattle.finite.proofs.Sum.{sum-cong, when-true, when-false, sum-one-more}
 use Rattle.finite.proofs.Search.{any-more, any-some, some-any, any-cong}
-use Rattle.claims.specs.Claims.{Progress, Keeps, among, holds, wanted, taking, Keeping, Lawful, Exclusive, made}
+use Rattle.claims.specs.Claims.{Progress, Keeps, keptIn, holds, wanted, taking, Keeping, Lawful, Exclusive, made}
 use Rattle.claims.proofs.Holding.{undone-holds}
-use Rattle.claims.proofs.Counting.{sum-one-more}
 
 module _ (s : Progress) (m : ℕ) where
   pub taken-here : taking s m .taken m ≡ suc (s .taken m)
@@ -50,16 +49,16 @@ module _ (itinerary : ℕ → List ℕ) (keeps : Keeps) (s : Progress) (m : ℕ)
   -- for the others nothing changes
   pub taking-other : (c r : ℕ) → (m ≡ c → ⊥) → holds itinerary keeps (taking s m) c r ≡ holds itinerary keeps s c r
   unfolding holds
-  taking-other c r d = ap₂ (λ (x : Bool) (j : ℕ). non x & among (itinerary c) (λ i. keeps c i j) j r) (taking-done s m c) (taken-there s m c d)
+  taking-other c r d = ap₂ (λ (x : Bool) (j : ℕ). non x & keptIn (itinerary c) (λ i. keeps c i j) j r) (taking-done s m c) (taken-there s m c d)
 
   module _ (keeping : Keeping keeps) (d : s .done m ≡ false) where
     -- what it keeps of what it had taken, once it has taken one more
     abbrev still : ℕ → Bool
-    still r = among (itinerary m) (λ i. keeps m i (suc (s .taken m))) (s .taken m) r
+    still r = keptIn (itinerary m) (λ i. keeps m i (suc (s .taken m))) (s .taken m) r
 
     -- it held that
     still-held : (r : ℕ) → still r ≡ true → holds itinerary keeps s m r ≡ true
-    unfolding among
+    unfolding keptIn
     still-held r h =
         let x = any-some (s .taken m) _ h in
         undone-holds itinerary keeps s m r d
@@ -67,17 +66,17 @@ module _ (itinerary : ℕ → List ℕ) (keeps : Keeps) (s : Progress) (m : ℕ)
 
     -- it holds what it wanted, and what it still keeps
     pub taking-holds : (r : ℕ) → holds itinerary keeps (taking s m) m r ≡ same (wanted itinerary s m) r or still r
-    unfolding among
+    unfolding keptIn
     taking-holds r =
         undone-holds itinerary keeps (taking s m) m r (taking-done s m m ∙ d)
-        ∙ ap (λ (j : ℕ). among (itinerary m) (λ i. keeps m i j) j r) (taken-here s m) ∙ any-more (s .taken m) _
+        ∙ ap (λ (j : ℕ). keptIn (itinerary m) (λ i. keeps m i j) j r) (taken-here s m) ∙ any-more (s .taken m) _
         ∙ ap (λ (b : Bool). (b & same (wanted itinerary s m) r) or still r) (keeping .new m (s .taken m))
         ∙ ap (λ (b : Bool). b or still r) (and-true _)
 
     -- where it gives nothing back by this step: what it wanted, and what it held
     pub taking-kept : ((i : ℕ) → i < s .taken m → keeps m i (suc (s .taken m)) ≡ keeps m i (s .taken m))
         → (r : ℕ) → holds itinerary keeps (taking s m) m r ≡ same (wanted itinerary s m) r or holds itinerary keeps s m r
-    unfolding among
+    unfolding keptIn
     taking-kept kept r =
         taking-holds r
         ∙ ap (λ (b : Bool). same (wanted itinerary s m) r or b)

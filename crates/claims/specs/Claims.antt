@@ -24,12 +24,12 @@ pub record Keeping (keeps : Keeps) : Type 0 where
   pub old : (m i j : ℕ) → keeps m i (suc j) ≡ true → keeps m i j ≡ true
 
 -- resource r is among the first j of the itinerary, as one of those that are kept
-unfoldable pub among : List ℕ → (ℕ → Bool) → ℕ → ℕ → Bool
-among itinerary kept j r = any j (λ i. kept i & same (getD itinerary i 0) r)
+unfoldable pub keptIn : List ℕ → (ℕ → Bool) → ℕ → ℕ → Bool
+keptIn itinerary kept j r = any j (λ i. kept i & same (getD itinerary i 0) r)
 
 -- claimant m holds r: it has taken it, keeps it, and is not done
 unfoldable pub holds : (ℕ → List ℕ) → Keeps → Progress → ℕ → ℕ → Bool
-holds itinerary keeps s m r = non (s .done m) & among (itinerary m) (λ i. keeps m i (s .taken m)) (s .taken m) r
+holds itinerary keeps s m r = non (s .done m) & keptIn (itinerary m) (λ i. keeps m i (s .taken m)) (s .taken m) r
 
 -- the resource that claimant m wants next
 abbrev pub wanted : (ℕ → List ℕ) → Progress → ℕ → ℕ

@@ -10,6 +10,7 @@ use Rattle.finite.specs.Truth.{_&_, same}
 use Rattle.finite.specs.Search.{all}
 use Rattle.finite.proofs.Truth.{no-tf, both, and-l, and-r, same-eq, eq-same}
 use Rattle.finite.proofs.Search.{all-more}
+use Rattle.format.specs.Limits.{maxImage}
 use Rattle.format.specs.Contents.{lengthAt, entryOf, beginOf, fitting, inOrder}
 use Rattle.format.specs.Bytes.{AllBytes}
 use Rattle.format.specs.declared.Entry.{Entry}
@@ -39,14 +40,14 @@ module _ {e : Entry} (i begin : ℕ) where
 pub record Fitted (b : List ℕ) (k begin i : ℕ) : Type 0 where
   pub at : begin ≡ beginOf b k i
   pub fit : all i (fitting b k) ≡ true
-  pub low : begin ≤ 2 + 6 * k + 65535 * i
+  pub low : begin ≤ 2 + 6 * k + maxImage * i
 
 pub fitted-none : (b : List ℕ) (k : ℕ) → Fitted b k (2 + 6 * k) 0
 unfolding all
 fitted-none b k = record { at = sym (begin-none b k); fit = refl; low = omega arith }
 
 -- the length of an entry is a number of 16 bits
-pub length-low : (b : List ℕ) (i : ℕ) {e : Entry} → AllBytes b → e ≡ entryOf b i → lengthIn e ≤ 65535
+pub length-low : (b : List ℕ) (i : ℕ) {e : Entry} → AllBytes b → e ≡ entryOf b i → lengthIn e ≤ maxImage
 length-low b i bytes found =
     entry-case b i
     (λ at. let l = ap lengthIn (found ∙ sym at) in let low = bytes (6 + 6 * i) in let high = bytes (6 + 6 * i + 1) in omega arith)
@@ -106,7 +107,7 @@ module _ {b : List ℕ} {k begin i : ℕ} (f : Fitted b k begin i) (last : i ≡
   pub fitted-first : {e : Entry} → e ≡ entryOf b 0 → getD b 1 0 ≡ k → begin ≡ length b → lengthIn e ≡ lengthAt b 0
   fitted-first found number ends = ap lengthIn found ∙ first-length b k number (sym at-last ∙ ends)
 
-  pub fitted-all : length b ≤ 65535 → getD b 0 0 ≡ 1 → getD b 1 0 ≡ k → begin ≡ length b → 2 ≤ lengthAt b 0 → inOrder b k ≡ true
+  pub fitted-all : length b ≤ maxImage → getD b 0 0 ≡ 1 → getD b 1 0 ≡ k → begin ≡ length b → 2 ≤ lengthAt b 0 → inOrder b k ≡ true
   fitted-all small first entries ends long =
       parts-in-order (record {
         small = small;

@@ -11,7 +11,7 @@ use Rattle.format.specs.declared.Entry.{Entry}
 use Rattle.format.specs.declared.Entry.the-variants.{At, Nothing}
 use Rattle.format.proofs.Contents.{entry-missing}
 use Rattle.contents.specs.declared.Found.{Found}
-use Rattle.contents.specs.Walking.{after, foundAt}
+use Rattle.contents.specs.Walking.{nextAfter, foundAt}
 
 abbrev IsNone : Entry → Type 0
 IsNone (At kind second offset length) = ⊥
@@ -21,9 +21,9 @@ abbrev pub going : Entry → ℕ → Found
 going e n = record { entry = e; next = n }
 
 module _ (b : List ℕ) (i : ℕ) {e : Entry} (found : e ≡ entryOf b i) where
-  to : {n : ℕ} → n ≡ after e i → going e n ≡ foundAt b i
+  to : {n : ℕ} → n ≡ nextAfter e i → going e n ≡ foundAt b i
   unfolding foundAt
-  to g = λ j. going (found j) ((g ∙ ap (λ (x : Entry). after x i) found) j)
+  to g = λ j. going (found j) ((g ∙ ap (λ (x : Entry). nextAfter x i) found) j)
 
   module _ {kind second offset length : ℕ} (there : e ≡ At kind second offset length) where
     pub there-below : i < getD b 1 0
@@ -32,9 +32,9 @@ module _ (b : List ℕ) (i : ℕ) {e : Entry} (found : e ≡ entryOf b i) where
         (λ t. absurd (subst IsNone (entry-missing b i (λ _ h _. no-tf (lt-below h) t) ∙ sym found ∙ there) tt))
 
     pub goes-on : going e (i + 1) ≡ foundAt b i
-    unfolding after
-    goes-on = to (add-one i ∙ sym (ap (λ (x : Entry). after x i) there))
+    unfolding nextAfter
+    goes-on = to (add-one i ∙ sym (ap (λ (x : Entry). nextAfter x i) there))
 
   pub stays : e ≡ Nothing → going e i ≡ foundAt b i
-  unfolding after
-  stays none = to (sym (ap (λ (x : Entry). after x i) none))
+  unfolding nextAfter
+  stays none = to (sym (ap (λ (x : Entry). nextAfter x i) none))

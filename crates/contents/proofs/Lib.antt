@@ -2,4 +2,4 @@ pub mod Going
 pub mod Whole
 pub mod Fitted
 pub mod Meet
-pub mod Tight
+pub mod Determined

@@ -3,15 +3,13 @@
 ghost use mathlib.Core.Path.{_≡_};
 ghost use Prim.Native.Nat.{_≤_};
 ghost use Rattle.format.specs.Contents.{inOrder};
-ghost use Rattle.contents.specs.Walking.{standing, foundAt, stepOf};
+ghost use Rattle.contents.specs.Walking.{standing, foundAt, stepFrom};
 ghost use Rattle.contents.specs.Fitting.{fits, lengthIn};
 use format::Entry;
-use network::byte_at;
+use format::MAX_IMAGE;
+use slices::byte_at;
 
-// "Not over 65,535 bytes"
-pub const MAX_IMAGE: usize = 65535;
-
-// 01: "a reader that keeps the caller's image and the number of the next entry"
+// RULES 6.3: "a reader that keeps the caller's image and the number of the next entry"
 pub struct Reader<'a> {
     pub image: &'a [u8],
     pub next: usize,
@@ -35,16 +33,16 @@ pub fn step_at(image: &[u8], number: usize) -> Found
     Found { entry, next }
 }
 
-// 01: "a new reader stands at 0"
+// RULES 6.3: "a new reader stands at 0"
 pub fn new<'a>(image: &'a [u8]) -> Reader<'a>
     ensures { λ r. ⌜ r ≡ standing (image .entry) 0 ⌝ }
 {
     Reader { image, next: 0 }
 }
 
-// 01: "Its step answers that entry's kind, second byte, offset and length as stored and goes on by one"
+// RULES 6.3: "A step answers that entry's kind, second byte, offset and length as they are stored, and goes on by one."
 pub fn step<'s, 'a>(reader: &'s mut Reader<'a>) -> Entry
-    ensures { λ r. ⌜ (r, now (reader .exit)) ≡ stepOf (now (reader .entry)) ⌝ }
+    ensures { λ r. ⌜ (r, now (reader .exit)) ≡ stepFrom (now (reader .entry)) ⌝ }
 {
     let s = step_at(reader.image, reader.next);
     reader.next = s.next;

@@ -1,4 +1,5 @@
--- Demand 1: each call keeps it. Two outcomes that its promise allows are equal, a refusal is given exactly when its row says, and a refused call leaves what was lent.
+-- Demand 1 (RULES 2.1): each call keeps it. Two outcomes that its promise allows are equal, a refusal is given exactly when its row says, and a refused call
+-- leaves what was lent.
 use mathlib.Core.Path.{_≡_, refl, sym, _∙_, ap}
 use mathlib.Core.List.{List}
 use mathlib.Core.Logic.{_↔_, _⊎_, inl, inr, ⊎-elim}
@@ -14,25 +15,26 @@ use Rattle.refusal.specs.declared.Refusal.the-variants.{Short, Unknown}
 use Rattle.refusal.proofs.Determined.{refusal-determined}
 use Rattle.refusal.specs.declared.Verdict.{Verdict}
 use Rattle.refusal.specs.declared.Verdict.the-variants.{Fine, Fault}
+use Rattle.refusal.proofs.Verdicts.{fine-fault}
 use Rattle.cabling.specs.Faults.{faultOf}
 use Rattle.cabling.specs.Verdicts.{Means}
 use Rattle.cabling.proofs.Meaning.{fault-means}
 use Rattle.format.specs.Contents.{fullKinds, nodesIn, pairsIn}
-use Rattle.contents.proofs.Tight.{step-tight}
-use Rattle.written.specs.declared.Written.the-variants.{NotWritten}
-use Rattle.written.specs.Written.{writtenOf, Writes}
-use Rattle.written.proofs.Meaning.{written-fault, written-short, refused-in-room, refused-untouched}
-use Rattle.written.proofs.Tight.{writes-unique}
+use Rattle.contents.proofs.Determined.{step-determined}
+use Rattle.results.specs.declared.Written.the-variants.{NotWritten}
+use Rattle.results.specs.Written.{writtenOf, Writes}
+use Rattle.results.proofs.Meaning.{written-fault, written-short, refused-in-room, refused-untouched}
+use Rattle.results.proofs.Determined.{writes-determined}
 use Rattle.image.specs.Image.{imageOf, kindsOf, cablingIn}
-use Rattle.image.specs.Calls.{linksFault, imageFault, outcomeOf, Reads}
+use Rattle.image.specs.Calls.{linksFault, imageFault}
+use Rattle.reading.specs.Reads.{outcomeOf, Reads}
 use Rattle.image.specs.Verdicts.{OfLinks}
 use Rattle.image.proofs.Faults.{then-fault}
 use Rattle.image.proofs.Meaning.{links-means, either-means}
-use Rattle.image.proofs.Reading.{outcome-refused, reads-unique, read-refused, read-untouched}
+use Rattle.reading.proofs.Reading.{outcome-refused, reads-determined, read-refused, read-untouched}
 use Rattle.route.specs.Route.{routeFault, routeBytes}
 use Rattle.route.proofs.Cases.{ends-refused, not-refused}
 use Rattle.hops.specs.declared.HopAnswer.the-variants as hop
-use Rattle.hops.proofs.Tight.{row-refused-iff, hop-refused-iff, hop-refusal}
 use Rattle.messages.specs.declared.Record.{Record}
 use Rattle.messages.specs.declared.Stepped.{Stepped}
 use Rattle.messages.specs.declared.Answer.{Answer}
@@ -42,6 +44,7 @@ use Rattle.messages.specs.Step.{with, stepOf}
 use Rattle.messages.specs.Runs.{successful}
 use Rattle.messages.proofs.Moves.{Case, unknown, already, arrives, waits, moves, step-case, step-none}
 use Rattle.messages.proofs.Answers.{unchanged}
+use Rattle.hops.proofs.Meaning.{row-refused-iff, hop-refused-iff, hop-refusal}
 use Rattle.start.specs.declared.Started.{Started}
 use Rattle.start.specs.Start.{startFault, recordAfter, startOf}
 use Rattle.start.proofs.Meaning.{start-means}
@@ -53,9 +56,6 @@ numbered h number place = (λ x. let (r, p, n, q) = x in (r, h r .0 p, n, q), λ
 
 -- ---- calls that write
 
-fine-no-fault : {r : Refusal} → Fine ≡ Fault r → ⊥
-fine-no-fault e = let z : _≡_ {A = ℕ} 0 1 = cc in omega arith
-
 module _ {Of : Verdict → Type 0} (bytes : List ℕ) (room : ℕ) where
   -- with what the verdict means, the refusals of the answer mean what the rows say
   rows-mean : (v : Verdict) → ((w : Verdict) → (v ≡ w) ↔ Of w) → (r : Refusal) → (writtenOf v bytes room ≡ NotWritten r) ↔ Rows Of (length bytes) room r
@@ -64,7 +64,7 @@ module _ {Of : Verdict → Type 0} (bytes : List ℕ) (room : ℕ) where
       from : (v : Verdict) → ((w : Verdict) → (v ≡ w) ↔ Of w) → writtenOf v bytes room ≡ NotWritten r → Rows Of (length bytes) room r
       from (Fault q) m e = fault (m (Fault r) .0 (let f = written-fault bytes room q in cc))
       from Fine m e =
-          bcase (leb (length bytes) room) (λ t. absurd (fine-no-fault (refused-in-room bytes room Fine r (leb-true _ _ t) e)))
+          bcase (leb (length bytes) room) (λ t. fine-fault refl (refused-in-room bytes room Fine r (λ f. leb-true _ _ t) e))
           (λ t.
           let l = leb-false _ _ t in
           let q : Short ≡ r = let f = written-short bytes room .1 l in cc in
@@ -78,7 +78,7 @@ module _ {Of : Verdict → Type 0} (bytes : List ℕ) (room : ℕ) where
 module _ {I : Type 0} (v : I → Verdict) (bytes : I → List ℕ) (Of : I → Verdict → Type 0) (means : (i : I) (w : Verdict) → (v i ≡ w) ↔ Of i w) where
   writes-keep : Keeps {S = List ℕ} (λ i before a after. Writes (v i) (bytes i) before a after) NotWrites (λ i before. Rows (Of i) (length (bytes i)) (length before))
   writes-keep = record {
-    one = λ i s t u a b x y. writes-unique x y;
+    one = λ i s t u a b x y. writes-determined x y;
     given = λ i s t a x.
         numbered (λ r. let m = rows-mean (bytes i) (length s) (v i) (means i) r in (λ e. m .0 (sym (x .answers) ∙ e), λ o. x .answers ∙ m .1 o));
     untouched = λ i s t a r x e. refused-untouched (bytes i) s t (v i) r (rw e at x);
@@ -116,7 +116,7 @@ route-keeps = writes-keep (λ i. routeFault (i .0) (i .1) (i .2)) (λ i. routeBy
 
 pub read-keeps : Keeps Reads NotReads ReadRows
 read-keeps = record {
-  one = λ b s t u x y. reads-unique b;
+  one = λ b s t u x y. reads-determined b;
   given = λ b s t a x.
       numbered (λ r.
       let m = rows-mean (pairsIn b) (length s) (imageFault b) (either-means b) r in
@@ -189,7 +189,7 @@ hop-keeps = record {
 
 pub reader-keeps : Keeps Step Never NoRows
 reader-keeps = record {
-  one = λ i s t u a b x y. step-tight s a b t u x y;
+  one = λ i s t u a b x y. step-determined s a b t u x y;
   given = λ i s t a x. numbered (λ r. (λ e. e, λ e. e));
   untouched = λ i s t a r x e. absurd e;
 }

@@ -1,4 +1,4 @@
--- Demand 3: from a start that answers fine, whatever the image and the list, and whichever moves are tried from there.
+-- Demand 3 (RULES 2.3): from a start that answers fine, whatever the image and the list, and whichever moves are tried from there.
 use mathlib.Core.Path.{_≡_, refl, ap}
 use mathlib.Core.Bool.{Bool}
 use mathlib.Core.List.{List, [], _∷_}

@@ -1,4 +1,5 @@
--- Demand 2: for every good cabling. Each premise `Writes ..` or `Reads ..` is the promise of the call that the sentence names, whatever buffer was lent.
+-- Demand 2 (RULES 2.2): for every good cabling. Each premise `Writes ..` or `Reads ..` is the promise of the call that the sentence names, whatever buffer
+-- was lent.
 use mathlib.Core.Path.{_≡_, sym, _∙_}
 use mathlib.Core.Bool.{Bool, true, false}
 use mathlib.Core.List.{List}
@@ -6,23 +7,24 @@ use Prim.Native.Nat.{ℕ, _+_, _*_, _/_, _≤_}
 use native.Mathlib.Omega.{arith}
 use lib.ListN.{length, take}
 use lib.Seq.{ext-getD}
-use Rattle.rule.specs.Labels.{labelIn}
+use Rattle.lawful.specs.Turn.{labelIn}
 use Rattle.cabling.specs.Cabling.{Cabling, cabled, Good}
 use Rattle.cabling.specs.Faults.{faultOf}
 use Rattle.fabric.specs.Fabric.{labelsFor, rowsFor}
 use Rattle.fabric.proofs.Labels.{labels-length, good-by-rule, good-labels-unique}
 use Rattle.fabric.proofs.Rows.{good-free-rows, good-falling-rows, free-rows-unique, falling-rows-unique}
 use Rattle.format.specs.Contents.{linksKinds, fullKinds}
-use Rattle.written.specs.declared.Written.{Written}
-use Rattle.written.specs.declared.Written.the-variants.{Bytes}
-use Rattle.written.specs.Written.{placed, Writes}
+use Rattle.results.specs.declared.Written.{Written}
+use Rattle.results.specs.declared.Written.the-variants.{Bytes}
+use Rattle.results.specs.Written.{placed, Writes}
 use Rattle.image.specs.Image.{bodiesOf, imageOf, kindsOf, cablingIn}
-use Rattle.image.specs.Calls.{linksFault, Reads}
-use Rattle.image.specs.declared.Outcome.{Outcome}
-use Rattle.image.specs.declared.Outcome.the-variants.{Read}
+use Rattle.image.specs.Calls.{linksFault}
+use Rattle.reading.specs.Reads.{Reads}
+use Rattle.reading.specs.declared.Outcome.{Outcome}
+use Rattle.reading.specs.declared.Outcome.the-variants.{Read}
 use Rattle.image.proofs.Pieces.{full-size}
 use Rattle.image.proofs.Images.{full-bodies}
-use Rattle.image.proofs.Calls.{never-refused, build-as-write, read-written, write-read}
+use Rattle.reading.proofs.Calls.{never-refused, build-as-write, read-written, write-read}
 use Rattle.demands.specs.Rules.{ByTheRule, Built}
 
 module _ (c : Cabling) (g : Good c) where
@@ -37,7 +39,7 @@ module _ (c : Cabling) (g : Good c) where
       (e, free-rows-unique g (rw e at (r .free-rows)), falling-rows-unique g (rw e at (r .falling-rows)))
 
   module _ {before after : List ℕ} where
-    -- "Connected cabling inside the limits, given room, is never refused": build answers, with labels and entries by the rule
+    -- RULES 2.2: "Connected cabling inside the limits, given room, is never refused.": build answers, with labels and entries by the rule
     pub demand-2 : {answer : Written} → let b = imageOf linksKinds c in
         28 + length (c .pairs) + c .nodes + 2 * (c .nodes * c .nodes) ≤ length before
         → Writes (linksFault b) (imageOf fullKinds (cablingIn b)) before answer after → Built c before answer after

@@ -1,4 +1,5 @@
--- Demand 1 in words: of each call its promise, which of its answers are refusals, and 01's rows for them. A lent buffer or record is what it was before and after.
+-- Demand 1 in words (RULES 2.1): of each call its promise, which of its answers are refusals, and the rows of RULES 9.1 for them. A lent buffer or record is
+-- what it was before and after.
 use mathlib.Core.Path.{_≡_}
 use mathlib.Core.Bool.{Bool}
 use mathlib.Core.List.{List, []}
@@ -19,15 +20,15 @@ use Rattle.hops.specs.Row.{RowFault, rowIn, hopIn}
 use Rattle.format.specs.Contents.{fullKinds, nodesIn, pairsIn}
 use Rattle.format.specs.declared.Entry.{Entry}
 use Rattle.contents.specs.declared.Reader.{Reader}
-use Rattle.contents.specs.Walking.{stepOf}
-use Rattle.written.specs.declared.Written.{Written}
-use Rattle.written.specs.declared.Written.the-variants.{NotWritten}
-use Rattle.written.specs.Written.{Writes}
+use Rattle.contents.specs.Walking.{stepFrom}
+use Rattle.results.specs.declared.Written.{Written}
+use Rattle.results.specs.declared.Written.the-variants.{NotWritten}
+use Rattle.results.specs.Written.{Writes}
 use Rattle.image.specs.Image.{imageOf, kindsOf, cablingIn}
 use Rattle.image.specs.Calls.{linksFault}
 use Rattle.image.specs.Verdicts.{OfLinks, OfEither}
-use Rattle.image.specs.declared.Outcome.{Outcome}
-use Rattle.image.specs.declared.Outcome.the-variants.{NotRead}
+use Rattle.reading.specs.declared.Outcome.{Outcome}
+use Rattle.reading.specs.declared.Outcome.the-variants.{NotRead}
 use Rattle.route.specs.Route.{routeFault, routeBytes}
 use Rattle.messages.specs.Sizes.{maxMessages}
 use Rattle.messages.specs.declared.Record.{Record}
@@ -44,14 +45,14 @@ Numbered P number place = (r : Refusal) × P r × (numberOf r ≡ number) × (pl
 
 -- a call with inputs I, lent memory S and answers A keeps demand 1
 pub record Keeps {I S A : Type 0} (Promise : I → S → A → S → Type 0) (Refuses : A → Refusal → Type 0) (Rows : I → S → Refusal → Type 0) : Type 0 where
-  -- any two outcomes that the promise allows are equal
+  -- RULES 2.1: "any two outcomes that it allows are equal"
   pub one : (i : I) (s t u : S) (a b : A) → Promise i s a t → Promise i s b u → (a ≡ b) × (t ≡ u)
-  -- each refusal is given exactly when its row says, with its number and its place
+  -- RULES 2.1: "Each refusal is given exactly when its row of 9.1 says, with its number and its place."
   pub given : (i : I) (s t : S) (a : A) → Promise i s a t → (number place : ℕ) → Numbered (Refuses a) number place ↔ Numbered (Rows i s) number place
-  -- "buffers and record stay untouched"
+  -- RULES 2.1: "A refused call leaves every lent buffer and record as it was."
   pub untouched : (i : I) (s t : S) (a : A) (r : Refusal) → Promise i s a t → Refuses a r → t ≡ s
 
--- ---- calls that write: the rows of their checks, and 9, "result longer than the buffer", after all of them
+-- ---- calls that write: the rows of their checks, and 9, RULES 9.1, "the result is longer than the buffer", after all of them
 
 pub data Rows (Of : Verdict → Type 0) (size room : ℕ) : Refusal → Type 0 where
   fault : {r : Refusal} → Of (Fault r) → Rows Of size room r
@@ -78,7 +79,7 @@ NotReads a r = a ≡ NotRead r
 abbrev pub ReadRows : List ℕ → List ℕ → Refusal → Type 0
 ReadRows b before = Rows (OfEither b) (length (pairsIn b)) (length before)
 
--- 10: "Route: a node ≥ N", after the image's own
+-- 10, RULES 9.1: "Route: a node ≥ N.", after the image's own
 pub data OfRoute (b : List ℕ) (s t : ℕ) : Verdict → Type 0 where
   of-image : {r : Refusal} → OfEither b (Fault r) → OfRoute b s t (Fault r)
   no-node : OfEither b Fine → (nodesIn b ≤ s) ⊎ (nodesIn b ≤ t) → OfRoute b s t (Fault (Unknown 0))
@@ -107,7 +108,7 @@ NotMoves a r = a ≡ move.Refused r
 abbrev pub Move : ℕ → Record → Answer → Record → Type 0
 Move m old a after = with after a ≡ machine.stepOf old m
 
--- 10: "Move: no such message"
+-- 10, RULES 9.1: "Move: no such message."
 abbrev pub MoveRows : ℕ → Record → Refusal → Type 0
 MoveRows m old r = (r ≡ Unknown 0) × ((old .messages ≤ m) ⊎ (maxMessages ≤ m))
 
@@ -117,7 +118,7 @@ MoveRows m old r = (r ≡ Unknown 0) × ((old .messages ≤ m) ⊎ (maxMessages 
 abbrev pub InTables : Type 0
 InTables = List ℕ × List ℕ × ℕ × ℕ × ℕ
 
--- "an empty part means refusal 10"
+-- RULES 7.5: "an empty part means refusal 10"
 abbrev pub NoRow : List ℕ → Refusal → Type 0
 NoRow part r = (part ≡ []) × (r ≡ Unknown 0)
 
@@ -140,7 +141,7 @@ HopRows i s r = (RowFault (i .0 .0) (i .0 .1) (i .0 .2) (i .0 .3) (i .0 .4) ⊎ 
 -- ---- the reader of the contents: it refuses nothing, and where there is no entry it answers none and stays
 
 abbrev pub Step : Unit {0} → Reader → Entry → Reader → Type 0
-Step i old a after = (a, after) ≡ stepOf old
+Step i old a after = (a, after) ≡ stepFrom old
 
 abbrev pub Never : {A : Type 0} → A → Refusal → Type 0
 Never a r = ⊥

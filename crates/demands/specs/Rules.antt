@@ -1,19 +1,20 @@
--- Demand 2 in words: what the bodies behind kind 1 of a full image hold, and what build, read and write make of a good cabling.
+-- Demand 2 in words (RULES 2.2): what the bodies behind kind 1 of a full image hold, and what build, read and write make of a good cabling.
 use mathlib.Core.Path.{_≡_}
 use mathlib.Core.List.{List, [], _∷_}
 use Prim.Native.Nat.{ℕ}
 use lib.ListN.{length}
 use Rattle.lawful.specs.Path.{LawfulTo, FallsTo}
-use Rattle.rule.specs.Labels.{labelIn, ByRule}
+use Rattle.lawful.specs.Turn.{labelIn}
+use Rattle.rule.specs.Labels.{ByRule}
 use Rattle.cabling.specs.Cabling.{Cabling, links}
 use Rattle.fabric.specs.Words.{RowsBy}
 use Rattle.format.specs.Bytes.{bodiesFrom}
-use Rattle.written.specs.declared.Written.{Written}
-use Rattle.written.specs.declared.Written.the-variants.{Bytes}
-use Rattle.written.specs.Written.{placed}
+use Rattle.results.specs.declared.Written.{Written}
+use Rattle.results.specs.declared.Written.the-variants.{Bytes}
+use Rattle.results.specs.Written.{placed}
 
--- labels by the published rule, free entries that begin a shortest lawful path and falling entries a shortest path of falls, "lowest number where several begin
--- one", "255 exactly when none exists"
+-- labels by the rule of RULES 4, free entries that begin a shortest lawful path and falling entries a shortest path of falls, RULES 5.2: "the lowest number
+-- where several begin one", RULES 5.3: "255 exactly when there is none"
 pub record ByTheRule (c : Cabling) (labels free falling : List ℕ) : Type 0 where
   pub size : length labels ≡ c .nodes
   pub by-rule : ByRule (c .nodes) (links c) (c .nodes) (labelIn labels)

@@ -21,7 +21,7 @@ abbrev pub tried : Record → List ℕ → Record
 tried r [] = r
 tried r (m ∷ tries) = tried (stepOf r m .«record») tries
 
--- "Moved and delivered count one successful move each": how many of them succeeded
+-- RULES 8.3: "Moved and delivered are one successful move each.": how many of them succeeded
 abbrev pub succeeded : Record → List ℕ → ℕ
 succeeded r [] = 0
 succeeded r (m ∷ tries) = when (successful (stepOf r m .answer)) 1 + succeeded (stepOf r m .«record») tries
@@ -30,20 +30,20 @@ succeeded r (m ∷ tries) = when (successful (stepOf r m .answer)) 1 + succeeded
 abbrev pub ShortestPaths : Cabling → List ℕ → (ℕ → List ℕ) → Type 0
 ShortestPaths c list paths = (m : ℕ) → m < messagesIn list → Shortest (LawfulTo (links c) (labelFor c) (sourceIn list m) (targetIn list m)) (paths m)
 
--- "the sum of (shortest lawful hops + 1)"
+-- RULES 2.3: "the sum, over all messages, of (shortest lawful hops + 1)"
 abbrev pub sumOver : List ℕ → (ℕ → List ℕ) → ℕ
 sumOver list paths = sumTo (messagesIn list) (λ m. length (paths m) + 1)
 
 abbrev pub AllDelivered : List ℕ → Record → Type 0
 AllDelivered list r = (m : ℕ) → m < messagesIn list → isDelivered r m ≡ true
 
--- demand 3, of a record that start filled, the moves tried from there, and the sum
+-- demand 3 (RULES 2.3), of a record that start filled, the moves tried from there, and the sum
 pub record Drains (list : List ℕ) (begun : Record) (tries : List ℕ) (sum : ℕ) : Type 0 where
-  -- "in whichever order moves are tried, while any is undelivered some message can move"
+  -- RULES 2.3: "In whichever order moves are tried, while a message is undelivered some message can move."
   pub goes-on : Some (messagesIn list) (λ m. non (isDelivered (tried begun tries) m)) → Some (messagesIn list) (λ m. successful (stepOf (tried begun tries) m .answer))
-  -- "successful moves never exceed the sum"
+  -- RULES 2.3: "Successful moves never exceed the sum"
   pub never-more : succeeded begun tries ≤ sum
-  -- "reach it exactly when all are delivered"
+  -- RULES 2.3: "They reach that sum exactly when every message is delivered"
   pub whole : (succeeded begun tries ≡ sum) ↔ AllDelivered list (tried begun tries)
-  -- "and then every link is free"
+  -- RULES 2.3: "and then every channel is free"
   pub free : AllDelivered list (tried begun tries) → (c : ℕ) → holder (tried begun tries) c ≡ 0

@@ -7,16 +7,17 @@ use native.Mathlib.Omega.{arith}
 use lib.Dec.{lit≤}
 use lib.ListN.{length, take, drop}
 use borrow.Author.Tests.{le-leb, lt-leb}
+use Rattle.finite.proofs.Slices.{part-rest}
 use Rattle.refusal.specs.declared.Refusal.{Refusal}
 use Rattle.refusal.specs.declared.Refusal.the-variants.{Contents}
 use Rattle.refusal.specs.declared.Verdict.the-variants.{Fine, Fault}
 use Rattle.laid.specs.Laid.{Page, page}
 use Rattle.laid.proofs.Pieces.{lays-as}
-use Rattle.written.specs.declared.Written.{Written}
-use Rattle.written.specs.declared.Written.the-variants.{Bytes}
-use Rattle.written.specs.Written.{Writes, roomFor}
+use Rattle.results.specs.declared.Written.{Written}
+use Rattle.results.specs.declared.Written.the-variants.{Bytes}
+use Rattle.results.specs.Written.{Writes, roomFor}
+use Rattle.format.specs.Limits.{halfWord}
 use Rattle.format.specs.Contents.{numberAt}
-use Rattle.format.proofs.Slices.{part-rest}
 use Rattle.lines.specs.Lines.{withLine, refusalLine, longestRefusal}
 use Rattle.lines.proofs.Whole.{lays-line}
 use Rattle.lines.proofs.Printed.{lays-prints, fault-prints}
@@ -50,12 +51,13 @@ module _ (input : List ℕ) where
   drain-prints room v e l = lays-prints (drainedLine (endIn input)) room v (lays-as (lays-line drainedWord _ l room) (ap drainedLine e))
 
 -- a drain of the parts of the input
-pub parts-drained : (input : List ℕ) (old : Record) {x : Drained} {n seed : ℕ} → n ≡ numberAt input 0 → seed ≡ numberAt input (2 + n) + 65536 * numberAt input (2 + n + 2)
+pub parts-drained : (input : List ℕ) (old : Record) {x : Drained} {n seed : ℕ} → n ≡ numberAt input 0
+    → seed ≡ numberAt input (2 + n) + halfWord * numberAt input (2 + n + 2)
     → x ≡ drainOf old (take (2 + n - 2) (drop 2 input)) (take (length input - (2 + n + 4)) (drop (2 + n + 4) input)) seed
     → x ≡ drainOf old (imageIn input) (listIn input) (seedIn input)
 parts-drained input old {n = n} {seed = seed} h s e =
     let a : take (2 + n - 2) (drop 2 input) ≡ imageIn input = let z : 2 + n - 2 ≡ numberAt input 0 = omega arith in ap (λ (k : ℕ). take k (drop 2 input)) z in
     let b : take (length input - (2 + n + 4)) (drop (2 + n + 4) input) ≡ listIn input =
     part-rest input (2 + n + 4) _ (le-refl _) ∙ ap (λ (k : ℕ). drop (2 + k + 4) input) h in
-    let c : seed ≡ seedIn input = s ∙ ap (λ (k : ℕ). numberAt input (2 + k) + 65536 * numberAt input (2 + k + 2)) h in
+    let c : seed ≡ seedIn input = s ∙ ap (λ (k : ℕ). numberAt input (2 + k) + halfWord * numberAt input (2 + k + 2)) h in
     cc

@@ -1,3 +1,3 @@
 pub mod Cases
 pub mod Meaning
-pub mod Tight
+pub mod Determined

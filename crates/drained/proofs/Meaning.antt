@@ -21,7 +21,7 @@ module _ (input : List ℕ) (whole : imageEnd input + 4 ≤ length input) (fine 
       ap (λ (v : Verdict). orRefused v (drainedLine (endIn input))) (fault-start input whole ∙ fine)
       ∙ ap₂ (λ (m k : ℕ). lineOf drainedWord (m ∷ k ∷ [])) (end-messages (imageIn input) (listIn input) fine (seedIn input)) (end-moves (imageIn input) (listIn input) fine (seedIn input))
 
-  -- "No messages: `drained 0 0`."
+  -- RULES 11.2: "No messages: `drained 0 0`."
   pub prints-none : listIn input ≡ [] → outputOf input ≡ lineOf drainedWord (0 ∷ 0 ∷ [])
   unfolding messagesIn allMoves sumTo
   prints-none e = prints ∙ ap (λ (l : List ℕ). lineOf drainedWord (messagesIn l ∷ sumOf (imageIn input) l ∷ [])) e

@@ -1,39 +1,15 @@
--- What `turn` and `drain` answer, from what their calls answer.
+-- What `drain` answers, from what its calls answer.
 use mathlib.Core.Path.{_≡_, sym, _∙_, ap}
-use mathlib.Core.List.{List, []}
+use mathlib.Core.List.{List}
 use Prim.Native.Nat.{ℕ}
-use lib.ListN.{length}
 use Rattle.refusal.specs.declared.Refusal.{Refusal}
 use Rattle.refusal.specs.declared.Verdict.{Verdict}
 use Rattle.refusal.specs.declared.Verdict.the-variants.{Fine, Fault}
-use Rattle.order.specs.Seed.{nextSeed, lookAt}
-use Rattle.messages.specs.Sizes.{maxPairs}
 use Rattle.messages.specs.declared.Record.{Record}
-use Rattle.messages.specs.declared.Answer.{Answer}
-use Rattle.messages.specs.declared.Stepped.{Stepped}
-use Rattle.messages.specs.Step.{with}
-use Rattle.messages.specs.Tells.{FreeFrom}
-use Rattle.messages.specs.Ready.{messagesOf}
-use Rattle.machine.specs.InPlace.{packed, stepIn}
-use Rattle.machine.proofs.InPlace.{step-in}
 use Rattle.start.specs.declared.Started.{Started}
 use Rattle.start.specs.Start.{startFault, freshOf, recordAfter, startOf}
 use Rattle.draining.specs.declared.Drained.{Drained}
-use Rattle.draining.specs.Order.{chosen, turnOf}
-use Rattle.draining.specs.InPlace.{turned}
 use Rattle.draining.specs.Drained.{endOf, drainOf}
-use Rattle.draining.proofs.Chosen.{chosen-told}
-
--- a turn in place is a turn of the record that the arrays make, where no channel from `span` on is held
-pub turned-is : (span seed : ℕ) (r : Record) {next n look message : ℕ} {x : Record} {a : Answer} → length (r .holders) ≡ maxPairs → FreeFrom span (r .holders)
-    → next ≡ nextSeed seed → n ≡ messagesOf r → look ≡ lookAt next n
-    → message ≡ chosen (packed (r .nodes) (r .messages) 0 [] (r .free) (r .falling) (r .targets) (r .heads) (r .classes) (r .delivered) (r .holders)) look
-    → with x a ≡ stepIn span r message → turned next look message x ≡ turnOf seed r
-unfolding turnOf
-turned-is span seed r {look = look} {message = message} size free e f g h i =
-    let c = h ∙ chosen-told r look in
-    let s = ap (λ (y : Stepped). y .«record») (i ∙ step-in span r message size free) in
-    cc
 
 module _ (old : Record) (b list : List ℕ) (seed : ℕ) where
   recorded : (v : Verdict) (last : Record) → startFault b list ≡ v → last ≡ recordAfter v old (endOf b list seed) → record { verdict = v; «record» = last } ≡ drainOf old b list seed

@@ -1,6 +1,5 @@
-pub mod Chosen
 pub mod Turns
 pub mod Answers
 pub mod Running
 pub mod Meaning
-pub mod Tight
+pub mod Determined

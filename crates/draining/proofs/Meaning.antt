@@ -19,7 +19,7 @@ use Rattle.messages.proofs.Reached.{reached-state}
 use Rattle.messages.proofs.Ready.{delivered-every, messages-listed}
 use Rattle.start.specs.Start.{startFault, freshOf}
 use Rattle.start.proofs.Fabrics.{TabledFor, RunFor, fresh-reached, start-fabric, start-listed}
-use Rattle.draining.specs.Order.{turnOf}
+use Rattle.turning.specs.Order.{turnOf}
 use Rattle.draining.specs.Drained.{after, sumOf, endOf}
 use Rattle.draining.proofs.Turns.{turn-moves, after-run, after-ends, after-same, after-count}
 use Rattle.draining.proofs.Running.{sum-read, fresh-moves}

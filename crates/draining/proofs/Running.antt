@@ -23,8 +23,10 @@ use Rattle.messages.proofs.Reached.{reached-state}
 use Rattle.messages.proofs.Drain.{free-from}
 use Rattle.start.specs.Start.{startFault, freshOf}
 use Rattle.start.proofs.Fabrics.{TabledFor, RunFor, label-read, fresh-reached, start-fabric, start-listed}
-use Rattle.draining.specs.declared.Turned.{Turned}
-use Rattle.draining.specs.Order.{turnOf}
+use Rattle.turning.specs.declared.Turned.{Turned}
+use Rattle.turning.specs.Order.{turnOf}
+use Rattle.turning.specs.InPlace.{turnIn}
+use Rattle.turning.proofs.InPlace.{turn-in}
 use Rattle.draining.specs.Drained.{after, sumOf, endOf}
 use Rattle.draining.proofs.Turns.{after-done, after-turn, turn-run, turn-less}
 
@@ -75,13 +77,17 @@ module _ (b list : List ℕ) (fine : startFault b list ≡ Fine) where
     pub running-all : allDelivered last ≡ true → last ≡ endOf b list seed
     running-all d = sym (after-done _ next last d) ∙ i .ends
 
-    -- the record has a mark for each of 256 messages, and no channel from 64 N on is held
+    -- the record has a mark for each of 256 messages
     pub running-marks : length (last .delivered) ≡ maxMessages
     running-marks = reached-state tabled listed (i .run) .1 .kept .delivered-size
 
-    pub running-free : (span : ℕ) → span ≡ maxNodes * min (last .nodes) maxNodes → FreeFrom span (last .holders)
+    running-free : (span : ℕ) → span ≡ maxNodes * min (last .nodes) maxNodes → FreeFrom span (last .holders)
     running-free span e =
         let n = reached-state tabled listed (i .run) .1 .kept .nodes in
         let m = tabled .many in
         let s : span ≡ maxNodes * nodesIn b = omega arith in
         rw s (free-from tabled listed (i .run))
+
+    -- no channel from 64 N on is held, so a turn may leave those out
+    pub running-turn : (span : ℕ) → span ≡ maxNodes * min (last .nodes) maxNodes → turnIn span next last ≡ turnOf next last
+    running-turn span e = turn-in span next last (reached-state tabled listed (i .run) .1 .kept .holders-size) (running-free span e)

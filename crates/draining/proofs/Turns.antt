@@ -1,21 +1,21 @@
--- While a message is undelivered each turn moves one, so a drain ends when the sum of demand 3 is reached: every message is delivered then.
+-- While a message is undelivered each turn moves one, so a drain ends when the sum of demand 3 (RULES 2.3) is reached: every message is delivered then.
 use mathlib.Core.Path.{_≡_, refl, sym, _∙_, ap, subst}
 use mathlib.Core.Bool.{Bool, true, false}
 use mathlib.Core.List.{List}
 use Prim.Native.Nat.{ℕ, zero, suc, _+_, _-_, _≤_}
 use native.Mathlib.Omega.{arith}
 use Rattle.finite.proofs.Truth.{bcase}
-use Rattle.order.specs.Seed.{nextSeed, lookAt}
-use Rattle.order.proofs.Places.{look-low}
+use Rattle.seeds.specs.Seed.{nextSeed, lookAt}
+use Rattle.seeds.proofs.Places.{look-low}
 use Rattle.messages.specs.declared.Record.{Record}
 use Rattle.messages.specs.Step.{stepOf}
 use Rattle.messages.specs.Runs.{Tabled, Listed, allMoves, Reached, move, successful}
-use Rattle.messages.specs.Ready.{messagesOf, allDelivered}
+use Rattle.messages.specs.Ready.{messagesOf, ready, allDelivered}
 use Rattle.messages.proofs.Drain.{never-more, all-delivered, one-less}
 use Rattle.messages.proofs.Ready.{ready-moves, every-delivered, messages-listed, one-ready}
-use Rattle.draining.specs.Order.{turnOf}
+use Rattle.turning.specs.Order.{turnOf}
 use Rattle.draining.specs.Drained.{after}
-use Rattle.draining.proofs.Chosen.{chosen-ready}
+use Rattle.turning.proofs.Chosen.{chosen-ready}
 
 pub after-done : (k seed : ℕ) (r : Record) → allDelivered r ≡ true → after k seed r ≡ r
 unfolding after
@@ -45,7 +45,7 @@ module _ {n : ℕ} {edge : ℕ → ℕ → Bool} {labels free falling list : Lis
       turn-moves =
           let s = one-ready tabled listed run d in
           let l = s .low in
-          let c = chosen-ready r (lookAt (nextSeed seed) (messagesOf r)) (look-low (nextSeed seed) (messagesOf r) (omega arith)) s in
+          let c = chosen-ready (messagesOf r) (ready r) (lookAt (nextSeed seed) (messagesOf r)) (look-low (nextSeed seed) (messagesOf r) (omega arith)) s in
           sym (ready-moves r _ (c .0)) ∙ c .1
 
       pub turn-less : suc (sum - turnOf seed r .«record» .moves) ≡ sum - r .moves

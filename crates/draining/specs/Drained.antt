@@ -1,4 +1,4 @@
--- 01, "Programs": "Moves go on until every message is delivered."
+-- RULES 10.4: "Moves go on until every message is delivered."
 use mathlib.Core.Bool.{true, false}
 use mathlib.Core.List.{List}
 use Prim.Native.Nat.{ℕ, zero, suc}
@@ -11,14 +11,14 @@ use Rattle.messages.specs.Runs.{allMoves}
 use Rattle.messages.specs.Ready.{allDelivered}
 use Rattle.start.specs.Start.{startFault, freshOf, recordAfter}
 use Rattle.draining.specs.declared.Drained.{Drained}
-use Rattle.draining.specs.Order.{turnOf}
+use Rattle.turning.specs.Order.{turnOf}
 
 -- the record once every message is delivered, or after k turns
 unfoldable pub after : ℕ → ℕ → Record → Record
 after zero seed r = r
 after (suc k) seed r = elim (allDelivered r) [ true ↦ r | false ↦ after k (turnOf seed r .seed) (turnOf seed r .«record») ]
 
--- demand 3's "sum of (shortest lawful hops + 1)" for the messages of the list: so many turns a drain takes
+-- RULES 2.3: "the sum, over all messages, of (shortest lawful hops + 1)" for the messages of the list: so many turns a drain takes
 abbrev pub sumOf : List ℕ → List ℕ → ℕ
 sumOf b list = allMoves (nodesIn b) (links (cablingIn b)) (labelsFor (cablingIn b)) list
 

@@ -1,3 +1,1 @@
-pub mod Order
-pub mod InPlace
 pub mod Drained

@@ -9,10 +9,10 @@ use Rattle.finite.proofs.Truth.{bcase, same-eq, same-ne}
 use Rattle.hops.specs.Row.{RowFault, tableIn, rowIn, hopIn}
 use Rattle.hops.specs.declared.HopAnswer.the-variants.{Next}
 use Rattle.hops.proofs.Lookup.{faulty, free-table, falling-table}
-use Rattle.hops.proofs.Tight.{row-size, row-byte, hop-byte}
 use Rattle.lawful.specs.Entry.{entry}
 use Rattle.rows.proofs.Meaning.{rows-length}
 use Rattle.cabling.specs.Cabling.{Cabling, Good, links}
+use Rattle.hops.proofs.Meaning.{row-size, row-byte, hop-byte}
 use Rattle.fabric.specs.Fabric.{labelFor, rowsFor}
 use Rattle.fabric.proofs.Rows.{good-row-at}
 

@@ -1,4 +1,4 @@
--- The labels of every good cabling, in 01's words: by the rule, each of 1 to N once, and each node but the top one has a neighbour with a higher label.
+-- The labels of every good cabling, by RULES 4: by the rule, each of 1 to N once, and each node but the top one has a neighbour with a higher label.
 use mathlib.Core.Path.{_≡_}
 use Prim.Native.Nat.{ℕ, _≤_, _<_}
 use native.Mathlib.Nat.{le-refl}
@@ -18,7 +18,7 @@ unfolding labelsOf
 labels-length c = labelled-length (c .nodes) (links c) (c .nodes) (c .nodes)
 
 module _ {c : Cabling} (g : Good c) where
-  -- "labels 1, 2, .. N are given in order", each to the node to choose of those that remain
+  -- RULES 4.1: "Labels 1, 2, .. N are given in this order", each to the node to choose of those that remain
   pub good-by-rule : ByRule (c .nodes) (links c) (c .nodes) (labelFor c)
   good-by-rule = labels-by-rule (c .nodes) (links c) (good-network g) (c .nodes) (le-refl _) (g .connected)
 

@@ -8,14 +8,17 @@ use native.Mathlib.Omega.{arith}
 use lib.ListN.{getD}
 use Rattle.finite.specs.Lists.{padded}
 use Rattle.finite.proofs.Lists.{tabulate-cong, padded-at}
+use Rattle.finite.proofs.Grid.{cell-low}
+use Rattle.graph.proofs.Walk.{network-wider}
 use Rattle.nodes.specs.Limits.{maxNodes}
 use Rattle.network.specs.Table.{edgeOf, tableOf}
+use Rattle.lawful.specs.Turn.{labelIn}
 use Rattle.refusal.specs.declared.Refusal.{Refusal}
 use Rattle.refusal.specs.declared.Verdict.{Verdict}
 use Rattle.refusal.specs.declared.Verdict.the-variants.{Fine, Fault}
 use Rattle.lawful.proofs.Width.{entry-width}
-use Rattle.rule.specs.Labels.{labelIn, labelsOf}
-use Rattle.rule.proofs.Width.{wider, labels-width}
+use Rattle.rule.specs.Labels.{labelsOf}
+use Rattle.rule.proofs.Width.{labels-width}
 use Rattle.rows.specs.declared.Tables.{Tables}
 use Rattle.rows.specs.Tables.{tableSize, rowsOf, tablesOf}
 use Rattle.cabling.specs.Cabling.{Cabling, Good, links}
@@ -24,7 +27,6 @@ use Rattle.fabric.specs.declared.Fabric.{Fabric}
 use Rattle.fabric.specs.declared.Made.{Made}
 use Rattle.fabric.specs.Fabric.{labelsFor, labelFor, rowsFor, fabricOf, bareFabric, fabricAfter, madeBy}
 use Rattle.fabric.proofs.Labels.{good-climbing}
-use Rattle.fabric.proofs.Rows.{cell-low}
 
 -- ---- the fabric of a good cabling
 
@@ -40,7 +42,7 @@ module _ {c : Cabling} (g : Good c) where
       tabulate-cong _ _ _ (λ i l.
       let few = g .few in
       let (v, t) = cell-low (c .nodes) i l in
-      entry-width maxNodes (c .nodes) (links c) (labelFor c) (wider (c .nodes) maxNodes few (links c) (good-network g)) (good-network g) (good-climbing g .distinct)
+      entry-width maxNodes (c .nodes) (links c) (labelFor c) (network-wider (c .nodes) maxNodes few (links c) (good-network g)) (good-network g) (good-climbing g .distinct)
       _ class _ (omega arith) (omega arith) t)
 
   -- a label is read the same from the list and from the array
@@ -84,5 +86,5 @@ unfolding madeBy fabricAfter
 made-fabric c e f = ap (λ (x : Made). x .fabric) e ∙ ap (λ (x : Verdict). fabricAfter x c) f
 
 -- two answers that a promise allows are equal
-pub made-tight : (v : Verdict) (c : Cabling) (x y : Made) → x ≡ madeBy v c → y ≡ madeBy v c → x ≡ y
-made-tight v c x y e f = e ∙ sym f
+pub made-determined : (v : Verdict) (c : Cabling) (x y : Made) → x ≡ madeBy v c → y ≡ madeBy v c → x ≡ y
+made-determined v c x y e f = e ∙ sym f

@@ -1,15 +1,16 @@
--- The rows of every good cabling, in 01's words: an entry begins a shortest way, lowest number first, and is 255 exactly where there is none; and no other table is like that.
+-- The rows of every good cabling, by RULES 5: an entry begins a shortest way, lowest number first, and is 255 exactly where there is none; and no other table
+-- is like that.
 use mathlib.Core.Path.{_≡_, refl, sym, _∙_, ap}
 use mathlib.Core.Bool.{Bool, true, false}
 use mathlib.Core.List.{List}
 use mathlib.Core.Logic.{_↔_, _⊎_, ⊎-elim}
-use Prim.Native.Nat.{ℕ, zero, suc, _+_, _*_, _/_, _%_, _<_}
-use native.Mathlib.Nat.{div-lt-iff-lt-mul, mod-lt, not-suc-le-zero}
+use Prim.Native.Nat.{ℕ, _+_, _*_, _/_, _%_, _<_}
 use native.Mathlib.Omega.{arith}
 use lib.ListN.{getD}
 use lib.Seq.{ext-getD}
 use Rattle.finite.specs.Truth.{same}
 use Rattle.finite.proofs.Truth.{bcase, same-eq, same-ne}
+use Rattle.finite.proofs.Grid.{cell-is, cell-low}
 use Rattle.graph.specs.Network.{Network}
 use Rattle.lawful.specs.Turn.{Distinct}
 use Rattle.lawful.specs.Entry.{none, entry}
@@ -17,18 +18,12 @@ use Rattle.lawful.proofs.Paths.{WayTo}
 use Rattle.lawful.proofs.Climb.{climbing-way}
 use Rattle.lawful.proofs.Entries.{begins-unique, entry-self, entry-begins, entry-none-iff}
 use Rattle.lawful.proofs.Routes.{way-or-none}
-use Rattle.rows.proofs.Grid.{cell-is}
 use Rattle.rows.proofs.Meaning.{rows-length, rows-at}
 use Rattle.cabling.specs.Cabling.{Cabling, Good, links}
 use Rattle.cabling.proofs.Joined.{good-network}
 use Rattle.fabric.specs.Fabric.{labelFor, rowsFor}
 use Rattle.fabric.specs.Words.{RowsBy, FreeRows, FallingRows}
 use Rattle.fabric.proofs.Labels.{good-climbing}
-
--- a cell of n × n has a row and a column
-pub cell-low : (n i : ℕ) → i < n * n → (i / n < n) × (i % n < n)
-cell-low zero i l = absurd (not-suc-le-zero l)
-cell-low (suc n) i l = (div-lt-iff-lt-mul {k = suc n} {x = i} {y = suc n} (omega arith) .1 l, mod-lt i (omega arith))
 
 -- two tables of the same words are equal
 pub rows-by-unique : (n : ℕ) (P : ℕ → ℕ → List ℕ → Type 0) {a b : List ℕ}
@@ -84,7 +79,7 @@ module _ {c : Cabling} (g : Good c) where
   rows-unique class x =
       rows-by-unique n (Way class) (λ v t k l d. way-or-none n (links c) (labelFor c) net distinct class v t k l) x (rows-by class)
 
-  -- kind 3 and kind 4 are what 01 says, and nothing else is
+  -- kind 3 and kind 4 are what RULES 6.2 says, and nothing else is
   pub good-free-rows : FreeRows c (rowsFor c true)
   good-free-rows = rows-by true
 

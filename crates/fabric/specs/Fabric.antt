@@ -9,13 +9,14 @@ use Rattle.refusal.specs.declared.Verdict.{Verdict}
 use Rattle.refusal.specs.declared.Verdict.the-variants.{Fine, Fault}
 use Rattle.cabling.specs.Cabling.{Cabling, links}
 use Rattle.cabling.specs.Faults.{faultOf}
-use Rattle.rule.specs.Labels.{labelIn, labelsOf}
+use Rattle.rule.specs.Labels.{labelsOf}
 use Rattle.lawful.specs.Entry.{routeOf}
+use Rattle.lawful.specs.Turn.{labelIn}
 use Rattle.rows.specs.Tables.{tableSize, rowsOf}
 use Rattle.fabric.specs.declared.Fabric.{Fabric}
 use Rattle.fabric.specs.declared.Made.{Made}
 
--- 01: "labels 1, 2, .. N are given in order" by the labelling rule: the label of each node, and all of them
+-- RULES 4.1: "Labels 1, 2, .. N are given in this order", by the labelling rule: the label of each node, and all of them
 abbrev pub labelsFor : Cabling → List ℕ
 labelsFor c = labelsOf (c .nodes) (links c) (c .nodes)
 
@@ -26,7 +27,7 @@ labelFor c = labelIn (labelsFor c)
 abbrev pub rowsFor : Cabling → Bool → List ℕ
 rowsFor c class = rowsOf (c .nodes) (c .nodes) (links c) (labelFor c) class
 
--- 01: "A message starts free [..]. Its route follows these entries": the nodes after s on the way to t
+-- RULES 5.4: "Its route follows these entries", and it starts free: the nodes after s on the way to t
 abbrev pub routeFor : Cabling → ℕ → ℕ → List ℕ
 routeFor c s t = routeOf (c .nodes) (links c) (labelFor c) s t
 

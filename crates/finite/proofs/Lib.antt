@@ -1,6 +1,11 @@
 pub mod Truth
 pub mod Sum
+pub mod Pairs
 pub mod Search
+pub mod Decide
 pub mod Sets
+pub mod Words
 pub mod Lists
+pub mod Slices
+pub mod Grid
 pub mod Filling

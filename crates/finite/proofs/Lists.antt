@@ -7,7 +7,7 @@ use native.Mathlib.Nat.{not-suc-le-zero, le-of-suc-le-suc, add-zero, zero-add, a
 use native.Mathlib.Numerals.{add-one}
 use native.Mathlib.Omega.{arith}
 use lib.ListN.{length, getD, set, take, drop, replicate, length-append, length-replicate, List·getD-eq-default}
-use lib.Seq.{ext-getD, sets, sets-eq, take-suc, take-append-seam, length-take-le}
+use lib.Seq.{ext-getD, sets, sets-eq, take-suc, take-at, length-take-le}
 use borrow.Author.Tests.{eq-eqb, eqb-true}
 use Rattle.finite.specs.Lists.{upFrom, tabulate, padded, alike}
 use Rattle.finite.proofs.Truth.{no-tf, refute, both, and-l, and-r}
@@ -65,9 +65,9 @@ unfolding padded
 padded-length k l h = simp (length-append, length-replicate) (omega arith)
 
 -- the list is the front of what is padded
-pub padded-front : (k : ℕ) (l : List ℕ) → take (length l) (padded k l) ≡ l
+pub padded-front : (k : ℕ) {n : ℕ} (l : List ℕ) → length l ≡ n → take n (padded k l) ≡ l
 unfolding padded
-padded-front k l = take-append-seam l (replicate (k - length l) 0)
+padded-front k {n} l e = take-at l (replicate (k - length l) 0) n e
 
 -- what is as long and reads the same is what is padded
 pub padded-ext : (k : ℕ) (l m : List ℕ) → length l ≤ k → length m ≡ k → ((i : ℕ) → i < k → getD m i 0 ≡ getD l i 0) → m ≡ padded k l

@@ -8,7 +8,7 @@ use native.Mathlib.Omega.{arith}
 use Rattle.finite.specs.Truth.{_&_, _or_, same, below}
 use Rattle.finite.specs.Sum.{count}
 use Rattle.finite.specs.Search.{Some, any, all, least, leastValue, lowestAt, leastBy, LeastBy}
-use Rattle.finite.proofs.Truth.{no-tf, bcase, iff, refute, both, and-l, and-r, false-and, or-l, or-r, or-case, same-eq, same-ne, same-refl, eq-same, below-lt, below-le}
+use Rattle.finite.proofs.Truth.{no-tf, bcase, iff, refute, both, and-l, and-r, false-and, or-l, or-r, or-case, same-eq, same-ne, same-refl, eq-same, below-lt, below-le, lt-below}
 use Rattle.finite.proofs.Sum.{count-none}
 
 -- a number below n that passes p, or the fact that none does
@@ -42,9 +42,6 @@ any-some zero p h = no-tf h refl
 any-some (suc n) p h =
     or-case _ _ (sym (any-more n p) ∙ h) (λ t. record { at = n; low = lt-suc-self n; fact = t })
     (λ t. let s = any-some n p t in record { at = s .at; low = le-step (s .low); fact = s .fact })
-
-pub any-none : (n : ℕ) (p : ℕ → Bool) → any n p ≡ false → (v : ℕ) → v < n → p v ≡ false
-any-none n p h v l = refute (p v) (λ t. no-tf (some-any n p v l t) h)
 
 pub any-cong : (n : ℕ) (p q : ℕ → Bool) → ((v : ℕ) → v < n → p v ≡ q v) → any n p ≡ any n q
 any-cong n p q h =
@@ -126,6 +123,26 @@ any-least n p h =
     let b = s .low in
     let f = least-found n p (s .at) (s .fact) in
     omega arith
+
+-- the least number is below n where some number passes
+pub below-least : (n : ℕ) (p : ℕ → Bool) → below (least n p) n ≡ any n p
+below-least n p = iff _ _ (λ t. let l = below-lt _ _ t in some-any n p (least n p) l (least-fact n p l)) (λ t. lt-below (any-least n p t))
+
+-- the least of the first n, sought among the first m: what stands past them passes
+module _ (n m : ℕ) {p : ℕ → Bool} {v : ℕ} (past : (u : ℕ) → m ≤ u → p u ≡ true) (e : v ≡ least m (λ u. below u n & p u)) where
+  before : (u : ℕ) → u < n → u < v → p u ≡ false
+  before u k l = refute (p u) (λ t. no-tf (both (lt-below k) t) (least-before m (λ x. below x n & p x) u (omega arith)))
+
+  pub least-found-among : v < n → v ≡ least n p
+  least-found-among l =
+      sym (least-unique n p v (omega arith)
+      (λ k.
+      bcase (below v m)
+      (λ t. let j = below-lt v m t in ap p e ∙ and-r _ _ (least-fact m (λ x. below x n & p x) (omega arith)))
+      (λ t. past v (below-le v m t))) (λ u k. before u (omega arith) k))
+
+  pub least-none-among : n ≤ v → n ≡ least n p
+  least-none-among l = sym (least-unique n p n (omega arith) (λ k. absurd (omega arith)) (λ u k. before u k (omega arith)))
 
 -- ---- the number with the least measure
 

@@ -15,8 +15,8 @@ use Rattle.finite.specs.Truth.{_&_, _or_, non, same, below}
 use Rattle.finite.specs.Sum.{sumTo, when, count}
 use Rattle.finite.specs.Search.{least}
 use Rattle.finite.specs.Sets.{has, setOf, without}
-use Rattle.finite.proofs.Truth.{no-tf, bcase, iff, both, and-l, and-r, non-true, true-non, ne-same, same-eq, same-ne, same-refl, and-true, and-false, below-lt, below-le}
-use Rattle.finite.proofs.Sum.{count-le, count-without, sum-cong, sum-more, sum-none, sum-only, sum-split, sum-without, when-true, when-false}
+use Rattle.finite.proofs.Truth.{no-tf, bcase, iff, both, and-l, and-r, non-true, true-non, ne-same, same-eq, same-ne, same-refl, below-lt, below-le}
+use Rattle.finite.proofs.Sum.{count-le, count-without, sum-cong, sum-more, sum-none, sum-only, sum-split, when-true, when-false}
 use Rattle.finite.proofs.Search.{find, least-here, least-there, least-cong}
 
 abbrev bit : ℕ → ℕ → ℕ
@@ -105,11 +105,6 @@ has-setOf (suc n) p v l =
 pub setOf-out : (n : ℕ) (p : ℕ → Bool) (v : ℕ) → n ≤ v → has (setOf n p) v ≡ false
 setOf-out n p v l = has-out (setOf n p) n v (setOf-lt n p) l
 
-pub has-setOf-below : (n : ℕ) (p : ℕ → Bool) (v : ℕ) → has (setOf n p) v ≡ below v n & p v
-has-setOf-below n p v =
-    bcase (below v n) (λ t. has-setOf n p v (below-lt _ _ t) ∙ sym (ap (λ (b : Bool). b & p v) t ∙ and-true (p v)))
-    (λ t. setOf-out n p v (below-le _ _ t) ∙ sym (ap (λ (b : Bool). b & p v) t ∙ and-false (p v)))
-
 pub setOf-cong : (n : ℕ) (p q : ℕ → Bool) → ((v : ℕ) → v < n → p v ≡ q v) → setOf n p ≡ setOf n q
 unfolding setOf
 setOf-cong n p q h = sum-cong n (λ v. when (p v) (2 ^ v)) (λ v. when (q v) (2 ^ v)) (λ v l. ap (λ (b : Bool). when b (2 ^ v)) (h v l))
@@ -190,14 +185,6 @@ pub one-set : (n v : ℕ) → v < n → 2 ^ v ≡ setOf n (same v)
 unfolding setOf
 one-set n v l = sym (sum-only n v (λ u. 2 ^ u) l)
 
--- a member's digit taken away
-pub less-set : (n w v : ℕ) → w < 2 ^ n → v < n → has w v ≡ true → w - 2 ^ v ≡ setOf n (without (has w) v)
-unfolding setOf without
-less-set n w v h l t =
-    let s = sum-without n (has w) (λ u. 2 ^ u) v l t in
-    let e = setOf-has n w h in
-    omega arith
-
 -- a set with a member is not 0, and 0 has none
 pub has-0 : (v : ℕ) → has 0 v ≡ false
 has-0 v = has-out 0 0 v (omega arith) zero-le
@@ -275,3 +262,7 @@ set-more n s w a b within d =
     (λ none. absurd (d (set-ext n w (has s) b (λ v k.
     iff _ _ (λ t. bcase (has s v) (λ y. y) (λ y. no-tf (both t (true-non y)) (none v k))) (within v k)) ∙ setOf-has n s a)))
     (find n (λ v. has w v & non (has s v)))
+
+-- a member of a set that is made from a test passes it
+pub setOf-in : (n : ℕ) (q : ℕ → Bool) {rest : ℕ} → rest ≡ setOf n q → (u : ℕ) → has rest u ≡ true → q u ≡ true
+setOf-in n q {rest} r u t = sym (ap (λ (x : ℕ). has x u) r ∙ has-setOf n q u (has-lt n rest u (rw r (setOf-lt n q)) t)) ∙ t

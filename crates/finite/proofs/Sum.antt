@@ -2,7 +2,7 @@
 use mathlib.Core.Path.{_≡_, refl, sym, _∙_, ap, ap₂}
 use mathlib.Core.Bool.{Bool, true, false}
 use Prim.Native.Nat.{ℕ, zero, suc, _+_, _*_, _≤_, _<_, zero-le}
-use native.Mathlib.Nat.{le-refl, le-step, lt-suc-self, le-dest, not-suc-le-zero, add-le-add, add-zero, add-suc, mul-add, mul-zero, mul-one}
+use native.Mathlib.Nat.{le-refl, le-step, lt-suc-self, le-dest, not-suc-le-zero, add-le-add, add-zero, add-suc, mul-add, mul-zero, mul-one, mul-suc}
 use native.Mathlib.Omega.{arith}
 use Rattle.finite.specs.Truth.{_&_, non, same, below}
 use Rattle.finite.specs.Sum.{sumTo, when, sumIf, count}
@@ -48,6 +48,20 @@ unfolding sumTo
 sum-first zero f = omega arith
 sum-first (suc n) f = let e = sum-first n f in omega arith
 
+-- the first x terms apart
+pub sum-append : (x y : ℕ) (f : ℕ → ℕ) → sumTo (x + y) f ≡ sumTo x f + sumTo y (λ j. f (x + j))
+sum-append x zero f = ap (λ (k : ℕ). sumTo k f) (add-zero x) ∙ (let z = sum-none (λ j. f (x + j)) in omega arith)
+sum-append x (suc y) f =
+    ap (λ (k : ℕ). sumTo k f) (add-suc x y) ∙ sum-more (x + y) f
+    ∙ (let i = sum-append x y f in let s = sum-more y (λ j. f (x + j)) in omega arith)
+
+-- a sum over b k numbers, b at a time
+pub sum-blocks : (b k : ℕ) (f : ℕ → ℕ) → sumTo (b * k) f ≡ sumTo k (λ i. sumTo b (λ u. f (b * i + u)))
+sum-blocks b zero f = ap (λ (x : ℕ). sumTo x f) (mul-zero b) ∙ sum-none f ∙ sym (sum-none _)
+sum-blocks b (suc k) f =
+    ap (λ (x : ℕ). sumTo x f) (mul-suc b k) ∙ sum-append (b * k) b f
+    ∙ ap (λ (x : ℕ). x + sumTo b (λ u. f (b * k + u))) (sum-blocks b k f) ∙ sym (sum-more k (λ i. sumTo b (λ u. f (b * i + u))))
+
 -- a sum whose terms from m on are 0
 pub sum-cut : (m n : ℕ) (f : ℕ → ℕ) → m ≤ n → ((v : ℕ) → m ≤ v → f v ≡ 0) → sumTo n f ≡ sumTo m f
 sum-cut m n f l h = let (j, e) = le-dest l in ap (λ (x : ℕ). sumTo x f) (sym e) ∙ go j
@@ -91,11 +105,6 @@ when-mono false x y h = zero-le
 pub when-and : (a b : Bool) (x : ℕ) → when (a & b) x ≡ when a (when b x)
 when-and true b x = ap (λ (t : Bool). when t x) (and-true b)
 when-and false b x = ap (λ (t : Bool). when t x) (and-false b)
-
-pub when-split : (b : Bool) (x : ℕ) → x ≡ when b x + when (non b) x
-unfolding non
-when-split true x = omega arith
-when-split false x = omega arith
 
 pub when-test : (a b : Bool) (x : ℕ) → (a ≡ true → b ≡ true) → when a x ≤ when b x
 when-test true b x h = let e = when-true x (h refl) in omega arith
@@ -147,6 +156,34 @@ sum-without n p f v l h =
     let o = sum-only n v f l in
     let e = sum-cong n (λ u. when (p u & same v u) (f u)) (λ u. when (same v u) (f u)) (λ u k.
     ap (λ (b : Bool). when b (f u)) (iff _ _ (λ t. and-r _ _ t) (λ t. both (ap p (sym (same-eq v u t)) ∙ h) t))) in
+    omega arith
+
+-- sums that agree, one term by term at most the other, agree term by term
+pub sum-equal : (n : ℕ) (f g : ℕ → ℕ) → ((v : ℕ) → v < n → f v ≤ g v) → sumTo n g ≤ sumTo n f → (v : ℕ) → v < n → f v ≡ g v
+sum-equal zero f g h e v l = absurd (not-suc-le-zero l)
+sum-equal (suc n) f g h e v l =
+    let a = sum-more n f in
+    let b = sum-more n g in
+    let last = h n (lt-suc-self n) in
+    let rest = sum-le n f g (λ u k. h u (le-step k)) in
+    bcase (same v n) (λ t. let q = same-eq v n t in ap f q ∙ go q (omega arith))
+    (λ t. let q = same-ne v n t in sum-equal n f g (λ u k. h u (le-step k)) (omega arith) v (omega arith))
+  where
+    go : v ≡ n → f n ≡ g n → f n ≡ g v
+    go q e = e ∙ ap g (sym q)
+
+-- a sum with one more at m
+pub sum-one-more : (n m : ℕ) (f : ℕ → ℕ) → m < n → sumTo n (λ v. f v + when (same m v) 1) ≡ suc (sumTo n f)
+sum-one-more n m f l = let a = sum-add n f (λ v. when (same m v) 1) in let o = sum-only n m (λ v. 1) l in omega arith
+
+-- a sum of n terms of at most b each
+pub sum-within : (n b : ℕ) (f : ℕ → ℕ) → ((v : ℕ) → v < n → f v ≤ b) → sumTo n f ≤ b * n
+sum-within zero b f h = let e = sum-none f in omega arith
+sum-within (suc n) b f h =
+    let i = sum-within n b f (λ v l. h v (le-step l)) in
+    let t = h n (lt-suc-self n) in
+    let e = sum-more n f in
+    let m = mul-suc b n in
     omega arith
 
 -- ---- counts
@@ -220,6 +257,10 @@ sumIf-bound n p f k h =
     let e = sumIf-same n p k in
     let l = sum-le n (λ v. when (p v) k) (λ v. when (p v) (f v)) (λ v b. when-mono (p v) k (f v) (h v)) in
     omega arith
+
+-- at most k for each of the n
+pub sumIf-within : (n k : ℕ) (p : ℕ → Bool) (f : ℕ → ℕ) → ((v : ℕ) → f v ≤ k) → sumIf n p f ≤ k * n
+sumIf-within n k p f h = sum-within n k (λ v. when (p v) (f v)) (λ v l. let w = when-le (p v) (f v) in let b = h v in omega arith)
 
 pub sumIf-add : (n : ℕ) (p : ℕ → Bool) (f g : ℕ → ℕ) → sumIf n p (λ v. f v + g v) ≡ sumIf n p f + sumIf n p g
 sumIf-add n p f g =

@@ -1,7 +1,8 @@
 -- Laws of tests: how a fact about a connective is made, taken apart and refuted.
 use mathlib.Core.Path.{_≡_, refl, sym, _∙_}
 use mathlib.Core.Bool.{Bool, true, false, not, true≢false}
-use Prim.Native.Nat.{ℕ, _<_, _≤_}
+use Prim.Native.Nat.{ℕ, _+_, _<_, _≤_}
+use native.Mathlib.Omega.{arith}
 use borrow.Author.Tests.{lt-ltb, le-ltb, ltb-true, ltb-false, eq-eqb, ne-eqb, eqb-true, eqb-false}
 use Rattle.finite.specs.Truth.{_&_, _or_, non, same, below}
 
@@ -73,9 +74,10 @@ pub or-false : (b : Bool) → false or b ≡ b
 unfolding _or_
 or-false b = refl
 
-pub or-true : (b : Bool) → true or b ≡ true
+pub false-or : (a : Bool) → a or false ≡ a
 unfolding _or_
-or-true b = refl
+false-or true = refl
+false-or false = refl
 
 pub non-true : (b : Bool) → non b ≡ true → b ≡ false
 unfolding non
@@ -114,6 +116,12 @@ pub refute : (b : Bool) → (b ≡ true → ⊥) → b ≡ false
 refute true h = absurd (h refl)
 refute false h = refl
 
+-- what is not among the first is all that the second adds
+pub or-anew : (a b : Bool) → a or (b & non a) ≡ a or b
+or-anew a b =
+    iff _ _ (λ h. or-case _ _ h (or-l b) (λ t. or-r a (and-l _ _ t)))
+    (λ h. or-case _ _ h (or-l _) (λ t. bcase a (or-l _) (λ f. or-r a (both t (true-non f)))))
+
 pub same-eq : (a b : ℕ) → same a b ≡ true → a ≡ b
 unfolding same
 same-eq a b h = eqb-true a b h
@@ -151,3 +159,8 @@ lt-below {a} {b} h = lt-ltb a b h
 pub le-below : {a b : ℕ} → b ≤ a → below a b ≡ false
 unfolding below
 le-below {a} {b} h = le-ltb a b h
+
+-- one number more
+pub below-next : (a v : ℕ) → (a ≡ v → ⊥) → below a v ≡ below a (v + 1)
+below-next a v d =
+    iff _ _ (λ t. let l = below-lt _ _ t in lt-below (omega arith)) (λ t. let l = below-lt _ _ t in lt-below (omega arith))

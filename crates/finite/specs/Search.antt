@@ -11,6 +11,7 @@ pub record Some (n : ℕ) (p : ℕ → Bool) : Type 0 where
   pub low : at < n
   pub fact : p at ≡ true
 
+-- does some number below n pass; does every one?
 unfoldable pub any : ℕ → (ℕ → Bool) → Bool
 any zero p = false
 any (suc n) p = elim (p n) [ true ↦ true | false ↦ any n p ]
@@ -24,13 +25,15 @@ unfoldable pub least : ℕ → (ℕ → Bool) → ℕ
 least zero p = 0
 least (suc n) p = elim (p 0) [ true ↦ 0 | false ↦ suc (least n (λ v. p (suc v))) ]
 
--- of the numbers below n that pass p, the one with the least f, the lowest of them where several have it; n where none passes. Each f is below b.
+-- the least f of a number below n that passes p, each f being below b; b where none passes
 unfoldable pub leastValue : ℕ → ℕ → (ℕ → ℕ) → (ℕ → Bool) → ℕ
 leastValue b n f p = least b (λ x. any n (λ v. same (f v) x & p v))
 
+-- the lowest number below n that passes p and has the value x; n where none does
 unfoldable pub lowestAt : ℕ → (ℕ → ℕ) → (ℕ → Bool) → ℕ → ℕ
 lowestAt n f p x = least n (λ v. same (f v) x & p v)
 
+-- of the numbers below n that pass p, the one with the least f, the lowest of them where several have it; n where none passes
 unfoldable pub leastBy : ℕ → ℕ → (ℕ → ℕ) → (ℕ → Bool) → ℕ
 leastBy b n f p = lowestAt n f p (leastValue b n f p)
 

@@ -10,6 +10,7 @@ use borrow.Author.Tests.{leb-true, le-leb}
 use Rattle.finite.specs.Truth.{_&_, below}
 use Rattle.finite.specs.Search.{all}
 use Rattle.finite.proofs.Truth.{bcase, both, and-l, and-r, same-eq, eq-same, below-lt, lt-below}
+use Rattle.format.specs.Limits.{maxImage}
 use Rattle.format.specs.Contents.{numberAt, kindAt, secondAt, offsetAt, lengthAt, entryOf, beginOf, fitting, inOrder}
 use Rattle.format.specs.declared.Entry.the-variants.{At, Nothing}
 
@@ -43,7 +44,7 @@ entry-missing b i h =
 -- ---- the test of the contents, part by part
 
 pub record Parts (b : List ℕ) (k : ℕ) : Type 0 where
-  pub small : length b ≤ 65535
+  pub small : length b ≤ maxImage
   pub first : getD b 0 0 ≡ 1
   pub entries : getD b 1 0 ≡ k
   pub fit : all k (fitting b k) ≡ true

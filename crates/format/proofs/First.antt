@@ -1,16 +1,17 @@
 -- Kind 1: its body is N, the zero byte and the pairs, in an image that is read and in one that is written.
-use mathlib.Core.Path.{_≡_, refl, _∙_, ap, ap₂}
+use mathlib.Core.Path.{_≡_, _∙_, ap, ap₂}
 use mathlib.Core.Bool.{true}
 use mathlib.Core.List.{List, _∷_}
 use mathlib.Core.Logic.{_↔_}
 use Prim.Native.Nat.{ℕ, suc, _+_, _*_, _-_, _%_, _≤_, _<_}
 use native.Mathlib.Omega.{arith}
-use lib.ListN.{length, getD, take, drop}
+use lib.ListN.{length, take, drop}
+use Rattle.finite.proofs.Slices.{drop-next}
+use Rattle.format.specs.Limits.{maxImage}
 use Rattle.format.specs.Contents.{offsetAt, lengthAt, inOrder, bodyStart, nodesIn, zeroIn, pairsIn}
 use Rattle.format.specs.Bytes.{AllBytes, imageFrom, bodyAt, bodiesFrom}
-use Rattle.format.proofs.Slices.{drop-next}
 use Rattle.format.proofs.Contents.{in-order-parts}
-use Rattle.format.proofs.Order.{parts-words, in-order-size, in-order-some, in-order-inside, in-order-body}
+use Rattle.format.proofs.Order.{parts-words, in-order-size, in-order-some, in-order-body}
 use Rattle.format.proofs.Written.{from-in-order, from-bodies}
 use Rattle.format.proofs.Bodies.{in-order-from}
 
@@ -35,20 +36,12 @@ module _ (b : List ℕ) (k : ℕ) (h : inOrder b k ≡ true) where
   pub in-order-pairs-length : 2 + length (pairsIn b) ≡ lengthAt b 0
   in-order-pairs-length = let e = ap length in-order-pairs in let l = in-order-body b k h 0 (in-order-some b k h) in omega arith
 
-  -- so kind 1's length is odd where that of the pairs is, and above 1,026 where they are over 512 pairs
+  -- so kind 1's length is odd where that of the pairs is, and above 1,026 where theirs is above 1,024
   pub in-order-pairs-odd : length (pairsIn b) % 2 ≡ lengthAt b 0 % 2
   in-order-pairs-odd = let e = in-order-pairs-length in omega arith
 
-  pub in-order-pairs-over : (2 * 512 < length (pairsIn b)) ↔ (1026 < lengthAt b 0)
-  in-order-pairs-over = let e = in-order-pairs-length in (λ h. omega arith, λ h. omega arith)
-
-  -- the pairs lie inside the image
-  pub in-order-pairs-inside : bodyStart b + 2 + length (pairsIn b) ≤ length b
-  in-order-pairs-inside =
-      let e = in-order-pairs-length in
-      let l = in-order-inside b k h 0 (in-order-some b k h) in
-      let o = in-order-start in
-      omega arith
+  pub in-order-pairs-over : (most : ℕ) → (most < length (pairsIn b)) ↔ (2 + most < lengthAt b 0)
+  in-order-pairs-over most = let e = in-order-pairs-length in (λ h. omega arith, λ h. omega arith)
 
 -- an image in order is written from N, the zero byte, the pairs and the other bodies
 pub in-order-image : (b : List ℕ) (k : ℕ) → AllBytes b → inOrder b (suc k) ≡ true
@@ -58,11 +51,7 @@ in-order-image b k byte h = in-order-from b (suc k) byte h ∙ ap (λ (body : Li
 
 -- ---- in an image that is written
 
-pub from-kinds : (bodies : List (List ℕ)) → getD (imageFrom bodies) 1 0 ≡ length bodies
-unfolding imageFrom
-from-kinds bodies = refl
-
-module _ (n z : ℕ) (pairs : List ℕ) (rest : List (List ℕ)) (small : length (imageFrom ((n ∷ z ∷ pairs) ∷ rest)) ≤ 65535) where
+module _ (n z : ℕ) (pairs : List ℕ) (rest : List (List ℕ)) (small : length (imageFrom ((n ∷ z ∷ pairs) ∷ rest)) ≤ maxImage) where
   from-first : nodesIn (imageFrom ((n ∷ z ∷ pairs) ∷ rest)) ∷ zeroIn (imageFrom ((n ∷ z ∷ pairs) ∷ rest)) ∷ pairsIn (imageFrom ((n ∷ z ∷ pairs) ∷ rest)) ≡ n ∷ z ∷ pairs
   unfolding bodiesFrom
   from-first =

@@ -1,4 +1,3 @@
-pub mod Slices
 pub mod Contents
 pub mod Order
 pub mod Written

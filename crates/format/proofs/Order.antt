@@ -1,4 +1,4 @@
--- The test of the contents passes exactly where 01's parts hold; byte 1 decides the kinds, and every body lies inside the image.
+-- The test of the contents passes exactly where the parts of RULES 6.1 hold; byte 1 decides the kinds, and every body lies inside the image.
 use mathlib.Core.Path.{_≡_, refl, sym, _∙_, ap}
 use mathlib.Core.Bool.{true}
 use mathlib.Core.List.{List}
@@ -120,9 +120,6 @@ in-order-iff b k = (λ h. parts-words b k (in-order-parts b k h), λ w. parts-in
 module _ (b : List ℕ) (k : ℕ) (h : inOrder b k ≡ true) where
   pub in-order-some : 0 < k
   in-order-some = parts-some b k (in-order-parts b k h)
-
-  pub in-order-inside : (i : ℕ) → i < k → offsetAt b i + lengthAt b i ≤ length b
-  in-order-inside = parts-inside b k (in-order-parts b k h)
 
   pub in-order-body : (i : ℕ) → i < k → length (bodyAt b i) ≡ lengthAt b i
   in-order-body = parts-body b k (in-order-parts b k h)

@@ -1,4 +1,4 @@
--- What is written from bodies is read back: the image's length, that its contents are in order, its bodies, and that its bytes are bytes.
+-- What is written from bodies is read back: the image's length, that its contents are in order, and its bodies.
 use mathlib.Core.Path.{_≡_, refl, sym, _∙_, ap, ap₂}
 use mathlib.Core.Bool.{true}
 use mathlib.Core.List.{List, [], _∷_, _++_}
@@ -12,8 +12,9 @@ use Rattle.finite.specs.Sum.{sumTo}
 use Rattle.finite.proofs.Truth.{bcase, same-eq, same-ne}
 use Rattle.finite.proofs.Sum.{sum-first}
 use Rattle.finite.proofs.Search.{every-all}
+use Rattle.format.specs.Limits.{maxImage}
 use Rattle.format.specs.Contents.{lengthAt, beginOf, fitting, inOrder}
-use Rattle.format.specs.Bytes.{AllBytes, entryBytes, entriesOf, lengthsOf, joinedUp, imageFrom, bodiesFrom}
+use Rattle.format.specs.Bytes.{entryBytes, entriesOf, lengthsOf, joinedUp, imageFrom, bodiesFrom}
 use Rattle.format.proofs.Contents.{parts-in-order}
 use Rattle.format.proofs.Order.{Fits, fits-fitting, begin-none, begin-more}
 
@@ -67,7 +68,7 @@ laid-all bodies = record {
 from-drop : (b : List ℕ) (n : ℕ) {l : List ℕ} → drop n b ≡ l → (j m : ℕ) → m ≡ n + j → getD b m 0 ≡ getD l j 0
 from-drop b n e j m h = ap (λ (x : ℕ). getD b x 0) h ∙ sym (getD-drop n b j 0) ∙ ap (λ (x : List ℕ). getD x j 0) e
 
-low-high : (x : ℕ) → x ≤ 65535 → x % 256 + 256 * (x / 256 % 256) ≡ x
+low-high : (x : ℕ) → x ≤ maxImage → x % 256 + 256 * (x / 256 % 256) ≡ x
 low-high x l = omega arith
 
 -- what the image b of kinds 1, .., k then has from entry i on
@@ -76,7 +77,7 @@ record Found (b : List ℕ) (k i : ℕ) (bodies : List (List ℕ)) : Type 0 wher
   ends : beginOf b k (i + length bodies) ≡ length b
   bodies-back : bodiesFrom b i (length bodies) ≡ bodies
 
-module _ (b : List ℕ) (k : ℕ) (small : length b ≤ 65535) where
+module _ (b : List ℕ) (k : ℕ) (small : length b ≤ maxImage) where
   laid-fits : (i offset : ℕ) (body : List ℕ) (bodies : List (List ℕ)) → Laid b i offset (body ∷ bodies) → beginOf b k i ≡ offset → Fits b k i × (lengthAt b i ≡ length body)
   unfolding entriesOf joinedUp
   laid-fits i offset body bodies q e =
@@ -129,7 +130,7 @@ module _ (b : List ℕ) (k : ℕ) (small : length b ≤ 65535) where
             (n .bodies-back);
       }
 
-module _ (body : List ℕ) (rest : List (List ℕ)) (small : length (imageFrom (body ∷ rest)) ≤ 65535) where
+module _ (body : List ℕ) (rest : List (List ℕ)) (small : length (imageFrom (body ∷ rest)) ≤ maxImage) where
   found : Found (imageFrom (body ∷ rest)) (suc (length rest)) 0 (body ∷ rest)
   found = laid-found _ _ small 0 (2 + 6 * suc (length rest)) (body ∷ rest) (laid-all (body ∷ rest)) (begin-none _ _)
 
@@ -149,30 +150,3 @@ module _ (body : List ℕ) (rest : List (List ℕ)) (small : length (imageFrom (
 
   pub from-bodies : bodiesFrom (imageFrom (body ∷ rest)) 0 (suc (length rest)) ≡ body ∷ rest
   from-bodies = found .bodies-back
-
--- ---- the bytes of the image
-
-bytes-append : (l m : List ℕ) → AllBytes l → AllBytes m → AllBytes (l ++ m)
-bytes-append [] m p q i = q i
-bytes-append (x ∷ l) m p q zero = p 0
-bytes-append (x ∷ l) m p q (suc i) = bytes-append l m (λ j. p (suc j)) q i
-
-entries-bytes : (kind offset : ℕ) (sizes : List ℕ) → kind + length sizes ≤ 256 → AllBytes (entriesOf kind offset sizes)
-unfolding entriesOf
-entries-bytes kind offset [] h i = omega arith
-entries-bytes kind offset (size ∷ sizes) h zero = omega arith
-entries-bytes kind offset (size ∷ sizes) h (suc zero) = omega arith
-entries-bytes kind offset (size ∷ sizes) h (suc (suc zero)) = omega arith
-entries-bytes kind offset (size ∷ sizes) h (suc (suc (suc zero))) = omega arith
-entries-bytes kind offset (size ∷ sizes) h (suc (suc (suc (suc zero)))) = omega arith
-entries-bytes kind offset (size ∷ sizes) h (suc (suc (suc (suc (suc zero))))) = omega arith
-entries-bytes kind offset (size ∷ sizes) h (suc (suc (suc (suc (suc (suc i)))))) = entries-bytes (suc kind) (offset + size) sizes (omega arith) i
-
-pub from-bytes : (bodies : List (List ℕ)) → AllBytes (joinedUp bodies) → length bodies ≤ 255 → AllBytes (imageFrom bodies)
-unfolding imageFrom
-from-bytes bodies p h zero = omega arith
-from-bytes bodies p h (suc zero) = omega arith
-from-bytes bodies p h (suc (suc i)) =
-    let offset : ℕ = 2 + 6 * length bodies in
-    let e = length-map bodies length in
-    bytes-append (entriesOf 1 offset (lengthsOf bodies)) (joinedUp bodies) (entries-bytes 1 offset (lengthsOf bodies) (omega arith)) p i

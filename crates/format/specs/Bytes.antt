@@ -15,7 +15,7 @@ AllBytes b = (i : ℕ) → getD b i 0 < 256
 abbrev pub lowHigh : ℕ → List ℕ
 lowHigh x = x % 256 ∷ x / 256 % 256 ∷ []
 
--- "Each entry has 6 bytes: kind, zero, offset (16 bits, low byte first), length (the same)."
+-- RULES 6.1: "An entry has 6 bytes: kind, zero, offset of the body, length of the body, the last two of 16 bits, low byte first."
 abbrev pub entryBytes : ℕ → ℕ → ℕ → List ℕ
 entryBytes kind offset size = kind ∷ 0 ∷ lowHigh offset ++ lowHigh size
 
@@ -31,7 +31,7 @@ unfoldable pub joinedUp : List (List ℕ) → List ℕ
 joinedUp [] = []
 joinedUp (body ∷ bodies) = body ++ joinedUp bodies
 
--- "Byte 0 is 1. Byte 1 is the number of contents entries."
+-- RULES 6.1: "Byte 0 is 1. Byte 1 is the number of contents entries."
 unfoldable pub imageFrom : List (List ℕ) → List ℕ
 imageFrom bodies = 1 ∷ length bodies ∷ entriesOf 1 (2 + 6 * length bodies) (lengthsOf bodies) ++ joinedUp bodies
 

@@ -1,3 +1,4 @@
+pub mod Limits
 pub mod Contents
 pub mod Bytes
 pub mod Order

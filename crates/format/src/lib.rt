@@ -1,10 +1,22 @@
 // The layout of an image: contents entries, and bodies that follow them without a gap.
 ghost use mathlib.Core.Path.{_≡_};
-ghost use Prim.Native.Nat.{_≤_};
+ghost use Prim.Native.Nat.{_≤_, _<_};
 ghost use lib.ListN.{take, drop};
+ghost use Rattle.format.specs.Limits.{halfWord};
 ghost use Rattle.format.specs.Contents.{numberAt, entryOf, bodyStart, nodesIn, zeroIn, pairsIn};
 ghost use Rattle.format.specs.Bytes.{entryBytes, bodyAt};
-use network::byte_at;
+use slices::byte_at;
+
+// The number of kinds of a links image, and of a full one.
+pub const LINKS: usize = 1;
+
+pub const FULL: usize = 4;
+
+// RULES 6.1: "No image is longer than 65,535 bytes."
+pub const MAX_IMAGE: usize = 65535;
+
+// How many numbers there are of 16 bits.
+pub const HALF_WORD: usize = 65536;
 
 // A contents entry as stored, or none.
 pub enum Entry {
@@ -20,7 +32,7 @@ pub enum Entry {
 // The number in two bytes from place i on, low byte first.
 pub fn number_at(image: &[u8], i: usize) -> usize
     ensures number { λ r. ⌜ r ≡ numberAt (now (image .entry)) i ⌝ }
-    ensures low { λ r. ⌜ r ≤ 65535 ⌝ }
+    ensures low { λ r. ⌜ r < halfWord ⌝ }
 {
     if image.len() <= i {
         return 0;

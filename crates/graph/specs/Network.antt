@@ -6,7 +6,7 @@ use Rattle.finite.specs.Truth.{_&_, non, same}
 use Rattle.finite.specs.Sum.{count}
 use Rattle.finite.specs.Sets.{without}
 
--- 01: "Links are undirected [..] no node linked to itself"; each link joins two of the n nodes
+-- RULES 3.1: "A link has no direction. No node is linked to itself"; each link joins two of the n nodes
 pub record Network (n : ℕ) (edge : ℕ → ℕ → Bool) : Type 0 where
   pub undirected : (a b : ℕ) → edge a b ≡ true → edge b a ≡ true
   pub no-loop : (a : ℕ) → edge a a ≡ true → ⊥
@@ -40,7 +40,7 @@ pub record From (n : ℕ) (edge : ℕ → ℕ → Bool) (p : ℕ → Bool) (v : 
 abbrev pub Connected : (ℕ → ℕ → Bool) → (ℕ → Bool) → Type 0
 Connected edge R = (a b : ℕ) → R a ≡ true → R b ≡ true → Walk (among R edge) a b
 
--- 01: "A cut node of a connected graph is one whose removal leaves a graph that isn't connected"
+-- RULES 3.4: "A cut node of a connected graph is a node without which it is no longer connected."
 abbrev pub CutNode : (ℕ → ℕ → Bool) → (ℕ → Bool) → ℕ → Type 0
 CutNode edge R v = Connected edge (without R v) → ⊥
 

@@ -28,12 +28,14 @@ covers n R s = all n (λ v. non (R v) or has s v)
 unfoldable pub joined : ℕ → (ℕ → ℕ → Bool) → (ℕ → Bool) → Bool
 joined n edge R = covers n R (reach n edge (same (least n R)))
 
+-- any two members of R are joined by a walk among them
 unfoldable pub connected : ℕ → (ℕ → ℕ → Bool) → (ℕ → Bool) → Bool
 connected n edge R = joined n (among R edge) R
 
+-- the members of R but v are not
 unfoldable pub cut : ℕ → (ℕ → ℕ → Bool) → (ℕ → Bool) → ℕ → Bool
 cut n edge R v = non (connected n edge (without R v))
 
--- the same two tests over the links of the remaining graph themselves, as a table holds them: `joined n links R`, and
+-- the same over the links of the remaining graph itself, as a table holds them; there `joined` is the test of connectedness
 unfoldable pub splits : ℕ → (ℕ → ℕ → Bool) → (ℕ → Bool) → ℕ → Bool
 splits n links R v = non (joined n (avoid v links) (without R v))

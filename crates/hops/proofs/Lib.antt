@@ -1,2 +1,3 @@
 pub mod Lookup
-pub mod Tight
+pub mod Determined
+pub mod Meaning

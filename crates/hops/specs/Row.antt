@@ -1,4 +1,4 @@
--- 01, "Rows": what the row call and the hop call answer. Their tables are any two lists of bytes.
+-- RULES 7.5: what the row call and the hop call answer. Their tables are any two lists of bytes.
 use mathlib.Core.Path.{_≡_}
 use mathlib.Core.Bool.{Bool, true, false}
 use mathlib.Core.List.{List, []}
@@ -10,7 +10,7 @@ use Rattle.refusal.specs.declared.Refusal.the-variants.{Unknown}
 use Rattle.hops.specs.declared.HopAnswer.{HopAnswer}
 use Rattle.hops.specs.declared.HopAnswer.the-variants.{Next, Refused}
 
--- refusal 10: "N not in 2 to 64, either table not N × N long, a node [..] ≥ N, class above 1"
+-- refusal 10, RULES 9.1: "N not 2 to 64, either table not N × N long, a node [..] ≥ N, class above 1"
 pub data RowFault (free falling : List ℕ) (n node class : ℕ) : Type 0 where
   few : n < 2 → RowFault free falling n node class
   many : maxNodes < n → RowFault free falling n node class
@@ -24,16 +24,16 @@ unfoldable pub rowKnown : List ℕ → List ℕ → ℕ → ℕ → ℕ → Bool
 rowKnown free falling n node class =
     non (below n 2) & non (below maxNodes n) & same (length free) (n * n) & same (length falling) (n * n) & below node n & non (below 1 class)
 
--- "whichever of the two lent tables holds it": free is class 0, falling class 1
+-- RULES 7.5: "whichever of the two tables holds it": free is class 0, falling class 1
 unfoldable pub tableIn : List ℕ → List ℕ → ℕ → List ℕ
 tableIn free falling class = elim (same class 0) [ true ↦ free | false ↦ falling ]
 
--- "the row comes back as that part of whichever of the two lent tables holds it [..]; an empty part means refusal 10"
+-- RULES 7.5: "It answers the row as that part of whichever of the two tables holds it"; "an empty part means refusal 10"
 unfoldable pub rowIn : List ℕ → List ℕ → ℕ → ℕ → ℕ → List ℕ
 rowIn free falling n node class =
     elim (rowKnown free falling n node class) [ true ↦ take n (drop (node * n) (tableIn free falling class)) | false ↦ [] ]
 
--- "The hop call answers the byte of that row at a destination, as stored", and refusal 10 for "a [..] destination ≥ N" too
+-- RULES 7.5: "Hop takes a destination too and answers the byte of that row there, as it is stored."; refusal 10, RULES 9.1, for a "destination ≥ N" too
 unfoldable pub hopIn : List ℕ → List ℕ → ℕ → ℕ → ℕ → ℕ → HopAnswer
 hopIn free falling n node class destination =
     elim (rowKnown free falling n node class & below destination n) [

@@ -8,15 +8,16 @@ use native.Mathlib.Omega.{arith}
 use lib.ListN.{drop}
 use Rattle.finite.specs.Truth.{same}
 use Rattle.finite.proofs.Truth.{bcase, refute, same-eq, same-ne, eq-same, ne-same}
+use Rattle.finite.proofs.Decide.{by, pass, fail}
 use Rattle.nodes.specs.Limits.{maxNodes}
 use Rattle.refusal.specs.declared.Refusal.{Refusal}
 use Rattle.refusal.specs.declared.Refusal.the-variants.{Contents, Count, Shape, Differs}
 use Rattle.refusal.specs.declared.Verdict.{Verdict}
 use Rattle.refusal.specs.declared.Verdict.the-variants.{Fine, Fault}
+use Rattle.refusal.proofs.Verdicts.{fine-fault}
 use Rattle.cabling.specs.Cabling.{Good}
 use Rattle.cabling.specs.Faults.{faultOf}
 use Rattle.cabling.specs.Verdicts.{Counted}
-use Rattle.cabling.proofs.Decide.{by, pass, fail}
 use Rattle.cabling.proofs.Tests.{decide-counted}
 use Rattle.cabling.proofs.Meaning.{fault-fine}
 use Rattle.format.specs.Contents.{inOrder, linksKinds, fullKinds, nodesIn, zeroIn}
@@ -24,9 +25,6 @@ use Rattle.format.specs.Bytes.{sameBodies}
 use Rattle.format.proofs.Order.{in-order-one}
 use Rattle.image.specs.Image.{bodiesOf, cablingIn}
 use Rattle.image.specs.Calls.{andThen, frontFault, cablingFault, tablesFault, linksFault, imageFault}
-
-pub fault-not-fine : {r : Refusal} → Fault r ≡ Fine → ⊥
-fault-not-fine e = let z : _≡_ {A = ℕ} 0 1 = cc in omega arith
 
 -- ---- one check after the other
 
@@ -41,7 +39,7 @@ then-fault w e = rw e
 pub and-then-fine : (v w : Verdict) → andThen v w ≡ Fine → (v ≡ Fine) × (w ≡ Fine)
 unfolding andThen
 and-then-fine Fine w h = (refl, h)
-and-then-fine (Fault r) w h = absurd (fault-not-fine h)
+and-then-fine (Fault r) w h = fine-fault h refl
 
 module _ (b : List ℕ) where
   -- ---- 2 and 3
@@ -63,8 +61,8 @@ module _ (b : List ℕ) where
   front-zero h =
       bcase (same (zeroIn b) 0) (λ t. same-eq _ _ t)
       (λ t.
-      by (decide-counted (nodesIn b)) (λ c. absurd (fault-not-fine (sym (front-shape c (same-ne _ _ t)) ∙ h)))
-      (λ c. absurd (fault-not-fine (sym (front-count c) ∙ h))))
+      by (decide-counted (nodesIn b)) (λ c. fine-fault h (front-shape c (same-ne _ _ t)))
+      (λ c. fine-fault h (front-count c)))
 
   -- a cabling without a fault is good, and its second byte is zero
   pub cabling-good : cablingFault b ≡ Fine → Good (cablingIn b) × (zeroIn b ≡ 0)
@@ -81,7 +79,7 @@ module _ (b : List ℕ) where
   tables-differ h = rw (h, tablesFault)
 
   pub tables-same : tablesFault b ≡ Fine → sameBodies b 1 (drop 1 (bodiesOf (cablingIn b))) ≡ true
-  tables-same h = bcase (sameBodies b 1 (drop 1 (bodiesOf (cablingIn b)))) (λ t. t) (λ f. absurd (fault-not-fine (sym (tables-differ f) ∙ h)))
+  tables-same h = bcase (sameBodies b 1 (drop 1 (bodiesOf (cablingIn b)))) (λ t. t) (λ f. fine-fault h (tables-differ f))
 
   pub links-ordered : inOrder b linksKinds ≡ true → linksFault b ≡ cablingFault b
   unfolding linksFault
@@ -109,4 +107,4 @@ module _ (b : List ℕ) where
   -- what a fine verdict says
   pub links-fine : linksFault b ≡ Fine → (inOrder b linksKinds ≡ true) × (cablingFault b ≡ Fine)
   links-fine h =
-      bcase (inOrder b linksKinds) (λ t. (t, sym (links-ordered t) ∙ h)) (λ t. absurd (fault-not-fine (sym (links-broken t) ∙ h)))
+      bcase (inOrder b linksKinds) (λ t. (t, sym (links-ordered t) ∙ h)) (λ t. fine-fault h (links-broken t))

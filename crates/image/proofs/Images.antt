@@ -14,11 +14,13 @@ use Rattle.cabling.specs.Faults.{faultOf}
 use Rattle.cabling.proofs.Meaning.{fault-fine}
 use Rattle.fabric.specs.Fabric.{labelsFor, rowsFor}
 use Rattle.rows.proofs.Grid.{square-le}
+use Rattle.format.specs.Limits.{maxImage}
 use Rattle.format.specs.Contents.{inOrder, linksKinds, fullKinds, nodesIn, zeroIn, pairsIn}
 use Rattle.format.specs.Bytes.{AllBytes, imageFrom, bodiesFrom}
 use Rattle.format.proofs.Written.{from-in-order, from-bodies}
 use Rattle.format.proofs.Bodies.{same-bodies-iff}
 use Rattle.format.proofs.First.{in-order-image, from-nodes, from-zero, from-pairs}
+use Rattle.image.specs.Longest.{longestImage}
 use Rattle.image.specs.Image.{bodiesOf, imageOf, kindsOf, cablingIn}
 use Rattle.image.specs.Calls.{cablingFault, tablesFault, linksFault, imageFault}
 use Rattle.image.proofs.Pieces.{links-size, full-size}
@@ -26,12 +28,12 @@ use Rattle.image.proofs.Faults.{then-fine, and-then-fine, front-fine, c
 
 -- ---- how long they are
 
--- 64 nodes and 512 links
-pub largest : (pairs : List ℕ) → length pairs ≡ 2 * maxLinks → length (imageOf fullKinds (cabled maxNodes pairs)) ≡ 9308
+-- that of the most nodes and links
+pub largest : (pairs : List ℕ) → length pairs ≡ 2 * maxLinks → length (imageOf fullKinds (cabled maxNodes pairs)) ≡ longestImage
 largest pairs e = let s = full-size (cabled maxNodes pairs) in omega arith
 
 -- and no image of a good cabling is longer
-pub image-size : (full : Bool) (c : Cabling) → Good c → length (imageOf (kindsOf full) c) ≤ 9308
+pub image-size : (full : Bool) (c : Cabling) → Good c → length (imageOf (kindsOf full) c) ≤ longestImage
 image-size true c g =
     let few = g .few in
     let short = g .short in
@@ -43,11 +45,11 @@ image-size false c g = let short = g .short in let s = links-size c in omega ari
 -- ---- what is written is read back
 
 -- the bodies behind kind 1
-abbrev pub tablesOf : Cabling → List (List ℕ)
-tablesOf c = labelsFor c ∷ rowsFor c true ∷ rowsFor c false ∷ []
+abbrev pub tableBodies : Cabling → List (List ℕ)
+tableBodies c = labelsFor c ∷ rowsFor c true ∷ rowsFor c false ∷ []
 
 module _ (c : Cabling) (g : Good c) where
-  small : (full : Bool) → length (imageOf (kindsOf full) c) ≤ 65535
+  small : (full : Bool) → length (imageOf (kindsOf full) c) ≤ maxImage
   small full = let s = image-size full c g in omega arith
 
   -- the kinds of each image
@@ -57,7 +59,7 @@ module _ (c : Cabling) (g : Good c) where
 
   full-kinds : inOrder (imageOf fullKinds c) fullKinds ≡ true
   unfolding imageOf bodiesOf
-  full-kinds = from-in-order (c .nodes ∷ 0 ∷ c .pairs) (tablesOf c) (small true) (omega arith)
+  full-kinds = from-in-order (c .nodes ∷ 0 ∷ c .pairs) (tableBodies c) (small true) (omega arith)
 
   pub read-kind : (full : Bool) → inOrder (imageOf (kindsOf full) c) fullKinds ≡ full
   read-kind true = full-kinds
@@ -66,12 +68,12 @@ module _ (c : Cabling) (g : Good c) where
   -- the cabling, and the zero byte
   pub read-cabling : (full : Bool) → cablingIn (imageOf (kindsOf full) c) ≡ c
   unfolding imageOf bodiesOf
-  read-cabling true = ap₂ cabled (from-nodes (c .nodes) 0 (c .pairs) (tablesOf c) (small true)) (from-pairs (c .nodes) 0 (c .pairs) (tablesOf c) (small true))
+  read-cabling true = ap₂ cabled (from-nodes (c .nodes) 0 (c .pairs) (tableBodies c) (small true)) (from-pairs (c .nodes) 0 (c .pairs) (tableBodies c) (small true))
   read-cabling false = ap₂ cabled (from-nodes (c .nodes) 0 (c .pairs) [] (small false)) (from-pairs (c .nodes) 0 (c .pairs) [] (small false))
 
   read-zero : (full : Bool) → zeroIn (imageOf (kindsOf full) c) ≡ 0
   unfolding imageOf bodiesOf
-  read-zero true = from-zero (c .nodes) 0 (c .pairs) (tablesOf c) (small true)
+  read-zero true = from-zero (c .nodes) 0 (c .pairs) (tableBodies c) (small true)
   read-zero false = from-zero (c .nodes) 0 (c .pairs) [] (small false)
 
   -- it has no fault
@@ -85,17 +87,17 @@ module _ (c : Cabling) (g : Good c) where
   -- the bodies of a full one
   pub full-bodies : bodiesFrom (imageOf fullKinds c) 0 fullKinds ≡ bodiesOf c
   unfolding imageOf bodiesOf
-  full-bodies = from-bodies (c .nodes ∷ 0 ∷ c .pairs) (tablesOf c) (small true)
+  full-bodies = from-bodies (c .nodes ∷ 0 ∷ c .pairs) (tableBodies c) (small true)
 
-  tables-back : bodiesFrom (imageOf fullKinds c) 1 3 ≡ tablesOf c
+  tables-back : bodiesFrom (imageOf fullKinds c) 1 3 ≡ tableBodies c
   unfolding bodiesOf bodiesFrom
   tables-back = ap (drop 1) full-bodies
 
   tables-accepted : tablesFault (imageOf fullKinds c) ≡ Fine
   unfolding bodiesOf
   tables-accepted =
-      let e : drop 1 (bodiesOf (cablingIn (imageOf fullKinds c))) ≡ tablesOf c = ap (λ (x : Cabling). drop 1 (bodiesOf x)) (read-cabling true) in
-      tables-fine _ (rw e (same-bodies-iff (imageOf fullKinds c) 1 (tablesOf c) .1 tables-back))
+      let e : drop 1 (bodiesOf (cablingIn (imageOf fullKinds c))) ≡ tableBodies c = ap (λ (x : Cabling). drop 1 (bodiesOf x)) (read-cabling true) in
+      tables-fine _ (rw e (same-bodies-iff (imageOf fullKinds c) 1 (tableBodies c) .1 tables-back))
 
   pub links-accepted : linksFault (imageOf linksKinds c) ≡ Fine
   links-accepted = links-ordered _ links-kinds ∙ cabling-accepted false
@@ -120,7 +122,7 @@ links-same : (b : List ℕ) → AllBytes b → inOrder b linksKinds ≡ true →
 unfolding imageOf bodiesOf bodiesFrom
 links-same b byte h z = in-order-image b 0 byte h ∙ ap (λ (x : ℕ). imageFrom ((nodesIn b ∷ x ∷ pairsIn b) ∷ [])) z
 
-pub full-same : (b : List ℕ) → AllBytes b → inOrder b fullKinds ≡ true → zeroIn b ≡ 0 → bodiesFrom b 1 3 ≡ tablesOf (cablingIn b) → b ≡ imageOf fullKinds (cablingIn b)
+pub full-same : (b : List ℕ) → AllBytes b → inOrder b fullKinds ≡ true → zeroIn b ≡ 0 → bodiesFrom b 1 3 ≡ tableBodies (cablingIn b) → b ≡ imageOf fullKinds (cablingIn b)
 unfolding imageOf bodiesOf
 full-same b byte h z e =
     in-order-image b 3 byte h ∙ ap₂ (λ (x : ℕ) (t : List (List ℕ)). imageFrom ((nodesIn b ∷ x ∷ pairsIn b) ∷ t)) z e
@@ -133,7 +135,7 @@ accepted b byte h =
     bcase (inOrder b fullKinds)
     (λ t.
     let d = and-then-fine _ _ (sym (image-full b t) ∙ h) .1 in
-    rw t (full-same b byte t z (same-bodies-iff b 1 (tablesOf (cablingIn b)) .0 (tables-same b d))))
+    rw t (full-same b byte t z (same-bodies-iff b 1 (tableBodies (cablingIn b)) .0 (tables-same b d))))
     (λ t. rw t (links-same b byte (links-fine b (sym (image-links b t) ∙ h) .0) z))
 
 -- an image is accepted exactly when it is that of a good cabling, full or links only

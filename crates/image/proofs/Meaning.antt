@@ -1,4 +1,4 @@
--- The verdicts on an image mean what 01 says: each is given exactly where its row of specs/Verdicts.antt holds.
+-- The verdicts on an image mean what RULES 9.1 says: each is given exactly where its row of specs/Verdicts.antt holds.
 use mathlib.Core.Path.{_≡_, refl, sym, _∙_, subst}
 use mathlib.Core.Bool.{Bool, true, false}
 use mathlib.Core.List.{List}
@@ -7,11 +7,11 @@ use Prim.Native.Nat.{ℕ}
 use lib.ListN.{drop}
 use Rattle.finite.specs.Truth.{same}
 use Rattle.finite.proofs.Truth.{no-tf, bcase, refute, same-eq, same-ne}
+use Rattle.finite.proofs.Decide.{by}
 use Rattle.refusal.specs.declared.Refusal.the-variants.{Short}
 use Rattle.refusal.specs.declared.Verdict.{Verdict}
 use Rattle.refusal.specs.declared.Verdict.the-variants.{Fine, Fault}
 use Rattle.cabling.specs.Verdicts.{Means, means-count}
-use Rattle.cabling.proofs.Decide.{by}
 use Rattle.cabling.proofs.Tests.{decide-counted}
 use Rattle.cabling.proofs.Meaning.{fault-means}
 use Rattle.format.specs.Contents.{inOrder, linksKinds, fullKinds, nodesIn, zeroIn}
@@ -63,7 +63,7 @@ module _ (b : List ℕ) where
   fails-test : (k : ℕ) → (InOrder b k → ⊥) → inOrder b k ≡ false
   fails-test k h = refute (inOrder b k) (λ t. h (in-words k t))
 
-  -- "Given exactly when", of a links image
+  -- RULES 9.1: "given exactly when", of a links image
   links-given : {v : Verdict} → OfLinks b v → linksFault b ≡ v
   links-given (broken h) = links-broken b (fails-test linksKinds h)
   links-given (ordered w k) = links-ordered b (by-test linksKinds w) ∙ kind-one-given k
@@ -114,7 +114,7 @@ module _ (b : List ℕ) where
       (bcase (inOrder b linksKinds) (λ t. subst (OfEither b) (sym (links-ordered b t)) (links (in-words linksKinds t) kind-one))
       (λ l. subst (OfEither b) (sym (links-broken b l)) (neither (not-in-words linksKinds l) (not-in-words fullKinds f)))))
 
-  -- "Given exactly when", of either image
+  -- RULES 9.1: "given exactly when", of either image
   pub either-means : (v : Verdict) → (imageFault b ≡ v) ↔ OfEither b v
   either-means v = (λ e. subst (OfEither b) e either-row, either-given)
 

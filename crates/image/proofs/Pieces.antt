@@ -15,6 +15,7 @@ use Rattle.fabric.specs.declared.Fabric.{Fabric}
 use Rattle.fabric.specs.Fabric.{labelsFor, labelFor, rowsFor, fabricOf}
 use Rattle.fabric.proofs.Labels.{labels-length}
 use Rattle.fabric.proofs.Parts.{labels-part, free-part, falling-part}
+use Rattle.format.specs.Limits.{maxImage}
 use Rattle.format.specs.Contents.{linksKinds, fullKinds}
 use Rattle.format.specs.Bytes.{entryBytes, entriesOf, lengthsOf, joinedUp, imageFrom}
 use Rattle.format.proofs.Written.{entries-length, entries-more}
@@ -23,9 +24,9 @@ use Rattle.laid.specs.Lays.{Lays}
 use Rattle.laid.proofs.Pieces.{lays-none, lays-more, lays-as}
 use Rattle.refusal.specs.declared.Refusal.the-variants.{Short}
 use Rattle.refusal.specs.declared.Verdict.the-variants.{Fine}
-use Rattle.written.specs.declared.Written.the-variants.{NotWritten}
-use Rattle.written.specs.Written.{Writes}
-use Rattle.written.proofs.Placed.{no-room}
+use Rattle.results.specs.declared.Written.the-variants.{NotWritten}
+use Rattle.results.specs.Written.{Writes}
+use Rattle.results.proofs.Placed.{no-room}
 use Rattle.image.specs.Image.{bodiesOf, imageOf}
 use Rattle.image.specs.Laying.{headOf, frontOf}
 
@@ -39,7 +40,7 @@ head-length sizes = let e = entries-length 1 (2 + 6 * length sizes) sizes in ome
 pub record Entries (sizes : List ℕ) (p q : Page) (offset i : ℕ) : Type 0 where
   pub inside : i ≤ length sizes
   pub begins : offset ≡ 2 + 6 * length sizes + sumTo i (λ j. getD sizes j 0)
-  pub low : offset ≤ 2 + 6 * length sizes + 65535 * i
+  pub low : offset ≤ 2 + 6 * length sizes + maxImage * i
   pub laid : (b : List ℕ) → p ≡ behind (page b 0) (1 ∷ length sizes ∷ []) → length (headOf sizes) ≤ length b
       → Lays b q (1 ∷ length sizes ∷ entriesOf 1 (2 + 6 * length sizes) (take i sizes))
 
@@ -52,7 +53,7 @@ entries-begin sizes p = record {
   laid = λ b e h. let z = head-length sizes in lays-more _ (lays-none b) e (omega arith);
 }
 
-pub entries-next : {sizes : List ℕ} {p q r : Page} {offset i : ℕ} → Entries sizes p q offset i → i < length sizes → getD sizes i 0 ≤ 65535
+pub entries-next : {sizes : List ℕ} {p q r : Page} {offset i : ℕ} → Entries sizes p q offset i → i < length sizes → getD sizes i 0 ≤ maxImage
     → r ≡ behind q (entryBytes (i + 1) offset (getD sizes i 0)) → Entries sizes p r (offset + getD sizes i 0) (i + 1)
 entries-next {sizes} {p} {q} {r} {offset} {i} s l k e =
     let at = s .begins in
@@ -133,7 +134,7 @@ module _ (c : Cabling) where
       rw full-sizes
       (regroup (headOf (lengthsOf (bodiesOf c))) (n ∷ 0 ∷ []) (c .pairs) (labelsFor c) (rowsFor c true) (rowsFor c false) ∙ head-image (bodiesOf c))
 
-  -- "A full image has 28 + 2M + N + 2N² bytes"
+  -- RULES 6.2: "A full image has 28 + 2M + N + 2N² bytes"
   pub links-size : length (imageOf linksKinds c) ≡ 10 + length (c .pairs)
   links-size = ap length (sym links-image) ∙ simp (length-append, head-length) (omega arith)
 

@@ -8,7 +8,7 @@ use Rattle.fabric.specs.Fabric.{labelsFor, rowsFor}
 use Rattle.format.specs.Contents.{linksKinds, fullKinds, nodesIn, pairsIn}
 use Rattle.format.specs.Bytes.{imageFrom}
 
--- "Kind 1: N, a zero byte, then pairs of bytes [..] Kind 2: label of each node. Kind 3: free rows, N × N bytes. Kind 4: falling rows, N × N."
+-- RULES 6.2: "N, a zero byte, then the pairs of bytes [..] the label of each node [..] the free rows, N × N bytes [..] the falling rows, N × N bytes"
 unfoldable pub bodiesOf : Cabling → List (List ℕ)
 bodiesOf c = (c .nodes ∷ 0 ∷ c .pairs) ∷ labelsFor c ∷ rowsFor c true ∷ rowsFor c false ∷ []
 
@@ -16,7 +16,7 @@ bodiesOf c = (c .nodes ∷ 0 ∷ c .pairs) ∷ labelsFor c ∷ rowsFor c true �
 unfoldable pub imageOf : ℕ → Cabling → List ℕ
 imageOf k c = imageFrom (take k (bodiesOf c))
 
--- "A links image has kind 1 only; a full image has kinds 1, 2, 3, 4 in that order."
+-- RULES 6.1: "A links image has kind 1 alone; a full image has kinds 1, 2, 3, 4, in this order."
 abbrev pub kindsOf : Bool → ℕ
 kindsOf true = fullKinds
 kindsOf false = linksKinds

@@ -1,4 +1,4 @@
--- What each verdict on an image says: 01's table of refusals, row by row, in the order that stands below it.
+-- What each verdict on an image says: the table of RULES 9.1, row by row, in the order of RULES 9.2.
 use mathlib.Core.Path.{_≡_}
 use mathlib.Core.List.{List}
 use mathlib.Core.Logic.{_⊎_}
@@ -15,17 +15,17 @@ use Rattle.format.specs.Order.{InOrder}
 use Rattle.format.specs.Bytes.{bodiesFrom}
 use Rattle.image.specs.Image.{bodiesOf, cablingIn}
 
--- 2 to 7, of what kind 1 holds: "N not in 2 to 64"; "second byte of kind 1 not zero"; else what its cabling is given
+-- 2 to 7, of what kind 1 holds, RULES 9.1: "N not 2 to 64"; "second byte of kind 1 not zero"; else what its cabling is given
 pub data KindOne (b : List ℕ) : Verdict → Type 0 where
   count : (nodesIn b < 2) ⊎ (maxNodes < nodesIn b) → KindOne b (Fault Count)
   second : Counted (nodesIn b) → (zeroIn b ≡ 0 → ⊥) → KindOne b (Fault Shape)
   cabling : {v : Verdict} → zeroIn b ≡ 0 → Means (cablingIn b) v → KindOne b v
 
--- 8: kinds 2, 3 and 4 are "what the rules give"
+-- 8: kinds 2, 3 and 4 are, RULES 9.1, "what the rules give"
 abbrev pub ByTheRules : List ℕ → Type 0
 ByTheRules b = bodiesFrom b 1 3 ≡ drop 1 (bodiesOf (cablingIn b))
 
--- where a call takes the links image alone: 1, "contents break the rules" or "kinds not allowed for this call"
+-- where a call takes the links image alone: 1, RULES 9.1: "contents break 6.1; kinds that the call does not take"
 pub data OfLinks (b : List ℕ) : Verdict → Type 0 where
   broken : (InOrder b linksKinds → ⊥) → OfLinks b (Fault Contents)
   ordered : {v : Verdict} → InOrder b linksKinds → KindOne b v → OfLinks b v

@@ -1,39 +1,22 @@
-// The calls on images: read, write, build, and open for the calls above. Each checks in 01's order, and writes its result whole or not at all.
+// An image opened: the verdict on it, and its fabric. The checks are made in the order of RULES 9.2.
 ghost use mathlib.Core.Path.{_≡_};
 ghost use lib.ListN.{drop};
 ghost use Rattle.refusal.specs.declared.Verdict.{Verdict};
-ghost use Rattle.cabling.specs.Cabling.{cabled, Good};
-ghost use Rattle.cabling.specs.Faults.{faultOf};
+ghost use Rattle.cabling.specs.Cabling.{Good};
 ghost use Rattle.fabric.specs.Fabric.{fabricOf, bareFabric, madeBy};
-ghost use Rattle.format.specs.Contents.{fullKinds};
 ghost use Rattle.format.specs.Bytes.{sameBodies};
-ghost use Rattle.written.specs.Written.{Writes};
-ghost use Rattle.image.specs.Image.{bodiesOf, imageOf, kindsOf, cablingIn};
-ghost use Rattle.image.specs.Calls.{andThen, frontFault, cablingFault, tablesFault, linksFault, imageFault, Reads};
-
-mod laying; // laying.rt: the bytes of an image, laid in a lent buffer
-
-use fabric::Fabric;
+ghost use Rattle.image.specs.Image.{bodiesOf, cablingIn};
+ghost use Rattle.image.specs.Calls.{andThen, frontFault, cablingFault, tablesFault, imageFault};
 use fabric::Made;
+use format::FULL;
+use format::LINKS;
+use nodes::MAX_LINKS;
 use nodes::MAX_NODES;
 use refusal::Refusal;
 use refusal::Verdict;
-use written::Written;
 
-// The kinds of a links image and of a full one.
-const LINKS: usize = 1;
-
-const FULL: usize = 4;
-
-// What `read` answers: the numbers of nodes and links and which image it was, or the refusal.
-pub enum Outcome {
-    Read {
-        nodes: usize,
-        links: usize,
-        full: bool,
-    },
-    NotRead(Refusal),
-}
+// RULES 6.2: "A full image has 28 + 2M + N + 2N² bytes", M and N at the most.
+pub const LONGEST: usize = 28 + 2 * MAX_LINKS + MAX_NODES + 2 * (MAX_NODES * MAX_NODES);
 
 // 2 and 3, of the first two bytes of kind 1.
 fn front_fault(image: &[u8]) -> Verdict
@@ -74,7 +57,7 @@ fn refused(r: Refusal) -> Made
 }
 
 // 2 to 7, of an image whose contents are in order, or its fabric.
-fn make_in(image: &[u8]) -> Made
+pub fn make_in(image: &[u8]) -> Made
     ensures { λ r. ⌜ r ≡ madeBy (cablingFault (now (image .entry))) (cablingIn (now (image .entry))) ⌝ }
 {
     let first = front_fault(image);
@@ -90,13 +73,13 @@ fn agrees<'a>(image: &[u8], n: usize, labels: &'a [u8], free: &'a [u8], falling:
     ensures { λ r. ⌜ r ≡ sameBodies (now (image .entry)) 1 (drop 1 (bodiesOf (cablingIn (now (image .entry))))) ⌝ }
 {
     let size = n * n;
-    if !written::same_bytes(format::body_at(image, 1), written::front(labels, n)) {
+    if !slices::same_bytes(format::body_at(image, 1), slices::front(labels, n)) {
         return false;
     }
-    if !written::same_bytes(format::body_at(image, 2), written::front(free, size)) {
+    if !slices::same_bytes(format::body_at(image, 2), slices::front(free, size)) {
         return false;
     }
-    written::same_bytes(format::body_at(image, 3), written::front(falling, size))
+    slices::same_bytes(format::body_at(image, 3), slices::front(falling, size))
 }
 
 // 2 to 8, of an image with the contents of a full one, or its fabric.
@@ -143,59 +126,4 @@ pub fn verdict(image: &[u8]) -> Verdict
     }
     let opened = open(image);
     opened.verdict
-}
-
-// Writes the image of a cabling, full or links only, under the checks 2 to 7 and 9.
-pub fn write(n: usize, pairs: &[u8], full: bool, buffer: &mut [u8]) -> Written
-    ensures { λ r. ⌜ Writes (faultOf (cabled n (now (pairs .entry)))) (imageOf (kindsOf full) (cabled n (now (pairs .entry)))) (now (buffer .entry)) r (now (buffer .exit)) ⌝ }
-{
-    if full {
-        let made = fabric::make(n, pairs);
-        let verdict = made.verdict;
-        if let Verdict::Fault(r) = verdict {
-            return Written::NotWritten(r);
-        }
-        let f = made.fabric;
-        return laying::full(f, pairs, buffer);
-    }
-    let checked = cabling::fault(n, pairs);
-    if let Verdict::Fault(r) = checked {
-        return Written::NotWritten(r);
-    }
-    laying::links(n, pairs, buffer)
-}
-
-// Writes the full image of a links image, under the checks 1 to 7 and 9.
-pub fn build(image: &[u8], buffer: &mut [u8]) -> Written
-    ensures { λ r. ⌜ Writes (linksFault (now (image .entry))) (imageOf fullKinds (cablingIn (now (image .entry)))) (now (buffer .entry)) r (now (buffer .exit)) ⌝ }
-{
-    if !contents::in_order(image, LINKS) {
-        return Written::NotWritten(Refusal::Contents);
-    }
-    let made = make_in(image);
-    let verdict = made.verdict;
-    if let Verdict::Fault(r) = verdict {
-        return Written::NotWritten(r);
-    }
-    let f = made.fabric;
-    laying::full(f, format::pairs_in(image), buffer)
-}
-
-// Answers the numbers of nodes and links and which image it is, and writes the pairs, under the checks 1 to 9.
-pub fn read(image: &[u8], buffer: &mut [u8]) -> Outcome
-    ensures { λ r. ⌜ Reads (now (image .entry)) (now (buffer .entry)) r (now (buffer .exit)) ⌝ }
-{
-    let checked = verdict(image);
-    if let Verdict::Fault(r) = checked {
-        return Outcome::NotRead(r);
-    }
-    let written = written::place(format::pairs_in(image), buffer);
-    match written {
-        Written::NotWritten(r) => Outcome::NotRead(r),
-        Written::Bytes(m) => Outcome::Read {
-            nodes: format::nodes_in(image),
-            links: m / 2,
-            full: contents::in_order(image, FULL),
-        },
-    }
 }

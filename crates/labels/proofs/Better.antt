@@ -9,7 +9,7 @@ use Rattle.finite.specs.Search.{least, leastBy}
 use Rattle.finite.specs.Sets.{has, setOf, without}
 use Rattle.finite.proofs.Truth.{no-tf, bcase, refute, both, and-l, and-r, true-non, non-true, same-eq, same-ne, below-lt, below-le, lt-below, le-below}
 use Rattle.finite.proofs.Search.{least-found, leastBy-least, leastBy-none, least-by-unique}
-use Rattle.finite.proofs.Sets.{has-0, has-lt, has-setOf, without-in, without-ne, in-without}
+use Rattle.finite.proofs.Sets.{has-0, has-lt, has-setOf, without-in, without-ne, in-without, setOf-in}
 use Rattle.nodes.proofs.Words.{lowest-in, word-lt}
 use Rattle.graph.specs.Reach.{splits}
 use Rattle.labels.specs.declared.Best.{Best}
@@ -57,10 +57,6 @@ module _ (n : ℕ) (links : ℕ → ℕ → Bool) (R : ℕ → Bool) (v : ℕ) w
 
 -- ---- the members of a word, one after the other. Each degree is below b, and b stands for none.
 
--- a member of a word that is made from a test passes it
-pub rest-in : (n : ℕ) (q : ℕ → Bool) {rest : ℕ} → rest ≡ setOf n q → (u : ℕ) → has rest u ≡ true → q u ≡ true
-rest-in n q {rest} r u t = sym (ap (λ (x : ℕ). has x u) r ∙ has-setOf n q u (has-lt n rest u (word-lt n q r) t)) ∙ t
-
 -- no candidate among the nodes passed, or the best of them: it is below all that are left
 pub data Found (n b : ℕ) (f : ℕ → ℕ) (p : ℕ → Bool) (left : ℕ) (best : Best) : Type 0 where
   none : best .degree ≡ b → best .node ≡ n → Found n b f p left best
@@ -94,7 +90,7 @@ module _ (n b : ℕ) (f : ℕ → ℕ) (p : ℕ → Bool) (low : (v : ℕ) → f
     takes l h = record {
       word = word-lt n _ r;
       found = some node (λ u t.
-          let w = rest-in n _ r u t in
+          let w = setOf-in n _ r u t in
           let d = without-ne (has left) v u w in
           let k = least-found n (has left) u (without-in (has left) v u w) in
           omega arith) h refl;
@@ -114,7 +110,7 @@ module _ (n b : ℕ) (f : ℕ → ℕ) (p : ℕ → Bool) (low : (v : ℕ) → f
       where
         wider : Found n b f p left best → Found n b f p rest best
         wider (none x y) = none x y
-        wider (some l x y g) = some l (λ u t. x u (without-in (has left) v u (rest-in n _ r u t))) y g
+        wider (some l x y g) = some l (λ u t. x u (without-in (has left) v u (setOf-in n _ r u t))) y g
 
         last : (u : ℕ) → u ≡ v → p u ≡ true → Found n b f p left best → (best .degree < f u) ⊎ ((best .degree ≡ f u) × (best .node ≤ u))
         last u g q (none x y) = let l = h (sym (ap p g) ∙ q) in let k = low v in absurd (omega arith)

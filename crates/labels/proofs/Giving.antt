@@ -8,8 +8,7 @@ use native.Mathlib.Omega.{arith}
 use lib.ListN.{length, replicate, length-replicate}
 use Rattle.finite.specs.Truth.{below}
 use Rattle.finite.specs.Sets.{has, setOf, without}
-use Rattle.finite.proofs.Truth.{bcase, refute, and-l, below-lt, below-le}
-use Rattle.finite.proofs.Sets.{without-other}
+use Rattle.finite.proofs.Truth.{below-lt}
 use Rattle.graph.specs.Network.{Members, among}
 use Rattle.nodes.specs.Limits.{maxNodes}
 use Rattle.nodes.proofs.Words.{has-all}
@@ -17,29 +16,15 @@ use Rattle.network.specs.Table.{edgeOf, remaining, struckOut}
 use Rattle.network.proofs.Meaning.{edge-remaining, strike-remaining}
 use Rattle.rule.specs.Candidate.{choice}
 use Rattle.rule.specs.Labels.{remains, give, stage, labelled}
-use Rattle.rule.proofs.Stages.{give-length, remains-start, remains-set}
+use Rattle.rule.proofs.Stages.{give-length, remains-start, remains-give, remains-in}
 use Rattle.labels.specs.Links.{choiceBy}
 use Rattle.labels.proofs.Remaining.{choice-links}
-
--- giving v a label takes it out of what remains, and so does giving none to a v that is no node
-remains-give : (n m v k : ℕ) (labels : List ℕ) → length labels ≡ n → m ≤ n → remains m (give n v (suc k) labels) ≡ without (remains m labels) v
-unfolding give remains
-remains-give n m v k labels e l =
-    bcase (below v n) (λ t. rw (t, give) (remains-set m v k labels (rw e (below-lt _ _ t))))
-    (λ t.
-    rw (t, give) (fun-ext (λ u.
-    sym (without-other (remains m labels) v u (refute _ (λ h. let a = below-lt _ _ (and-l _ _ h) in let b = below-le _ _ t in omega arith))))))
 
 pub record Giving (t : List ℕ) (m k w : ℕ) (rest out : List ℕ) : Type 0 where
   pub labels : out ≡ labelled maxNodes (edgeOf t) m k
   pub size : length out ≡ maxNodes
   pub word : w ≡ setOf maxNodes (remains m out)
   pub table : rest ≡ remaining (remains m out) (edgeOf t)
-
--- the nodes that remain are nodes, so the word has just them
-remains-in : (m : ℕ) (out : List ℕ) → m ≤ maxNodes → Members maxNodes (remains m out)
-unfolding remains
-remains-in m out l v h = let a = below-lt _ _ (and-l _ _ h) in omega arith
 
 word-has : (R : ℕ → Bool) {w : ℕ} → Members maxNodes R → w ≡ setOf maxNodes R → has w ≡ R
 word-has R m e = fun-ext (λ v. ap (λ (x : ℕ). has x v) e ∙ has-all maxNodes R m v)
@@ -63,8 +48,8 @@ pub giving-more : (t : List ℕ) (m k w : ℕ) (rest out : List ℕ) {v w′ : �
 unfolding labelled stage
 giving-more t m k w rest out {v} {out′ = out′} l g ev eo er ew =
     let R : ℕ → Bool = remains m out in
-    let h = word-has R (remains-in m out l) (g .word) in
-    let links : edgeOf rest ≡ among R (edgeOf t) = ap edgeOf (g .table) ∙ edge-remaining R (edgeOf t) (remains-in m out l) in
+    let h = word-has R (remains-in m maxNodes out l) (g .word) in
+    let links : edgeOf rest ≡ among R (edgeOf t) = ap edgeOf (g .table) ∙ edge-remaining R (edgeOf t) (remains-in m maxNodes out l) in
     let chosen : v ≡ choice maxNodes (edgeOf t) R = ev ∙ ap₂ (choiceBy maxNodes) links h ∙ choice-links maxNodes (edgeOf t) R in
     let new : out′ ≡ give maxNodes v (suc k) out = eo ∙ ap (λ (x : ℕ). give maxNodes v x out) (add-one k) in
     let left : remains m out′ ≡ without R v = ap (remains m) new ∙ remains-give maxNodes m v k out (g .size) l in
@@ -76,6 +61,6 @@ giving-more t m k w rest out {v} {out′ = out′} l g ev eo er ew =
       size = ap length new ∙ give-length maxNodes v (suc k) out ∙ g .size;
       word = ew ∙ ap (λ (S : ℕ → Bool). setOf maxNodes (without S v)) h ∙ ap (setOf maxNodes) (sym left);
       table =
-          er ∙ ap (struckOut v) (g .table) ∙ strike-remaining R (edgeOf t) (remains-in m out l) v
+          er ∙ ap (struckOut v) (g .table) ∙ strike-remaining R (edgeOf t) (remains-in m maxNodes out l) v
           ∙ ap (λ (S : ℕ → Bool). remaining S (edgeOf t)) (sym left);
     }

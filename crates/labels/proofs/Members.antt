@@ -1,12 +1,12 @@
 -- A sum over the members of a word, taken one by one from the lowest: what is summed and what is left make the whole.
 use mathlib.Core.Path.{_≡_, _∙_, ap}
 use mathlib.Core.Bool.{Bool, true}
-use Prim.Native.Nat.{ℕ, zero, suc, _+_, _*_, _^_, _≤_, _<_}
+use Prim.Native.Nat.{ℕ, _+_, _^_, _<_}
 use native.Mathlib.Omega.{arith}
-use Rattle.finite.specs.Sum.{sumTo, when, sumIf}
+use Rattle.finite.specs.Sum.{when, sumIf}
 use Rattle.finite.specs.Search.{least}
 use Rattle.finite.specs.Sets.{has, setOf, without}
-use Rattle.finite.proofs.Sum.{sum-cong, sum-zero, sum-without, when-le, when-false}
+use Rattle.finite.proofs.Sum.{sum-cong, sum-zero, sum-without, when-false}
 use Rattle.finite.proofs.Sets.{has-0, has-lt, has-setOf}
 use Rattle.nodes.proofs.Words.{lowest-in}
 
@@ -29,9 +29,3 @@ summing-all n f total sum left s e =
     let i = s .0 in
     let z : sumIf n (has left) f ≡ 0 = sum-zero n _ (λ v l. when-false (f v) (ap (λ (w : ℕ). has w v) e ∙ has-0 v)) in
     omega arith
-
--- a sum of terms of at most k is at most k times as many
-pub sum-bound : (n k : ℕ) (p : ℕ → Bool) (f : ℕ → ℕ) → ((v : ℕ) → f v ≤ k) → sumIf n p f ≤ k * n
-unfolding sumTo
-sum-bound zero k p f h = omega arith
-sum-bound (suc n) k p f h = let i = sum-bound n k p f h in let w = when-le (p n) (f n) in let b = h n in omega arith

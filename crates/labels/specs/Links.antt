@@ -1,5 +1,5 @@
--- The rule over the links that a table holds, whatever they are. On the table of a remaining graph these are 01's candidates and 01's choice
--- (proofs/Meaning.antt).
+-- The rule over the links that a table holds, whatever they are. On the table of a remaining graph these are the candidates of RULES 4.2 and the choice of
+-- RULES 4.3 (proofs/Remaining.antt).
 use mathlib.Core.Bool.{Bool}
 use Prim.Native.Nat.{ℕ, suc, _*_, _-_}
 use lib.Dec.{leb}

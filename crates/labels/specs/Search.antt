@@ -1,4 +1,4 @@
--- One step of the search for the choice: the best candidate so far, and what the next node makes of it.
+-- One step of the search for the choice: the best candidate so far, and what the next node makes of it. Only the contract of a private function cites it.
 use mathlib.Core.Bool.{Bool, true, false}
 use Prim.Native.Nat.{ℕ}
 use Rattle.finite.specs.Truth.{_&_, below}

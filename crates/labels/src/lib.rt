@@ -6,11 +6,14 @@ ghost use lib.ListN.{length};
 ghost use Rattle.finite.specs.Sum.{count};
 ghost use Rattle.finite.specs.Sets.{has};
 ghost use Rattle.nodes.specs.Limits.{maxNodes};
+ghost use Rattle.nodes.specs.Members.{members};
 ghost use Rattle.network.specs.Table.{edgeOf};
 ghost use Rattle.rule.specs.Labels.{give, labelsOf};
 ghost use Rattle.labels.specs.Links.{roomBy, candidateBy, choiceBy};
 ghost use Rattle.labels.specs.Search.{better};
+use network::Table;
 use nodes::MAX_NODES;
+use nodes::Set;
 
 // One less, and 0 for 0.
 fn less_one(x: usize) -> usize
@@ -25,8 +28,8 @@ pub fn room(t: &[u64], v: usize) -> bool
 {
     let d = network::degree(t, v);
     let mut sum: usize = 0;
-    let mut left = network::row(t, v);
-    while left != 0 {
+    let mut left = network::neighbours(t, v);
+    while !nodes::is_empty(left) {
         let u = nodes::lowest(left);
         sum += less_one(network::degree(t, u));
         left = nodes::rest(left);
@@ -34,16 +37,16 @@ pub fn room(t: &[u64], v: usize) -> bool
     d * less_one(d) <= sum
 }
 
-// The best candidate so far, 65 and 64 where there is none.
+// The best candidate so far. Where there is none, both are higher than any node's.
 pub struct Best {
     pub degree: usize,
     pub node: usize,
 }
 
 // The better of the best so far and v, a node of w: v where it is a candidate of a lower degree.
-fn better_of(t: &[u64; MAX_NODES], w: u64, v: usize, best: Best) -> Best
-    requires { ⌜ has w v ≡ true ⌝ }
-    ensures { λ r. ⌜ r ≡ better (λ u. count maxNodes (edgeOf (now (t .entry)) u)) (candidateBy maxNodes (edgeOf (now (t .entry))) (has w)) v best ⌝ }
+fn better_of(t: &Table, w: Set, v: usize, best: Best) -> Best
+    requires { ⌜ has (members w) v ≡ true ⌝ }
+    ensures { λ r. ⌜ r ≡ better (λ u. count maxNodes (edgeOf (now (t .entry)) u)) (candidateBy maxNodes (edgeOf (now (t .entry))) (has (members w))) v best ⌝ }
 {
     let d = network::degree(t, v);
     if best.degree <= d {
@@ -59,15 +62,15 @@ fn better_of(t: &[u64; MAX_NODES], w: u64, v: usize, best: Best) -> Best
 }
 
 // The candidate of least degree, lowest number first, among the nodes of w; 64 where there is none.
-pub fn choice(t: &[u64; MAX_NODES], w: u64) -> usize
-    ensures { λ r. ⌜ r ≡ choiceBy maxNodes (edgeOf (now (t .entry))) (has w) ⌝ }
+pub fn choice(t: &Table, w: Set) -> usize
+    ensures { λ r. ⌜ r ≡ choiceBy maxNodes (edgeOf (now (t .entry))) (has (members w)) ⌝ }
 {
     let mut best = Best {
-        degree: 65,
-        node: 64,
+        degree: MAX_NODES + 1,
+        node: MAX_NODES,
     };
     let mut left = w;
-    while left != 0 {
+    while !nodes::is_empty(left) {
         let v = nodes::lowest(left);
         left = nodes::rest(left);
         let next = better_of(t, w, v, best);

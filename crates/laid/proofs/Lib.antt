@@ -1,2 +1,2 @@
 pub mod Pieces
-pub mod Tight
+pub mod Determined

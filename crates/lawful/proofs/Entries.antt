@@ -12,16 +12,15 @@ use Rattle.finite.specs.Sets.{has}
 use Rattle.finite.proofs.Truth.{no-tf, bcase, refute, or-r, same-eq, same-ne, ne-same, same-refl, below-lt, below-le, lt-below, le-below}
 use Rattle.finite.proofs.Search.{some-any, least-fact, least-found, least-unique}
 use Rattle.graph.specs.Network.{Network}
-use Rattle.lawful.specs.Turn.{Distinct, Climbing}
-use Rattle.lawful.specs.Path.{LawfulTo, Begins}
+use Rattle.lawful.specs.Turn.{Distinct}
+use Rattle.lawful.specs.Path.{Begins}
 use Rattle.lawful.specs.Entry.{Layer, leads, layer, lowestLead, firstLayer, none, entry}
 use Rattle.finite.proofs.Search.{any-least}
 use Rattle.lawful.proofs.Run.{Hop, Run, done, hop, Fewest, hop-edge}
 use Rattle.lawful.proofs.Layers.{side, Lead, leads-hop, hop-leads, layer-run, run-layer, layer-more, layer-grow, layer-start, layer-rest, layer-still}
 use Rattle.lawful.proofs.Paths.{WayTo, way-first, way-run, run-way, way-none, hop-shortest}
-use Rattle.lawful.proofs.Climb.{climbing-way}
 
--- "Both entries are determined."
+-- an entry is determined: no other node is the lowest that begins a shortest path
 pub begins-unique : {P : List ℕ → Type 0} {u w : ℕ} → Begins P u → Begins P w → u ≡ w
 begins-unique a b = let x = a .lowest _ _ (b .shortest) in let y = b .lowest _ _ (a .shortest) in omega arith
 
@@ -48,7 +47,7 @@ module _ (n : ℕ) (edge : ℕ → ℕ → Bool) (label : ℕ → ℕ) (t : ℕ)
   abbrev lowest : Bool → ℕ → ℕ
   lowest c v = lowestLead n edge label (at (first c v)) c v
 
-  -- "For t = v it is v."
+  -- RULES 5.2: "For t = v it is v."
   pub entry-self : (c : Bool) → entry n edge label t c t ≡ t
   unfolding entry
   entry-self c = rw (same-refl t, entry)
@@ -219,10 +218,3 @@ module _ (n : ℕ) (edge : ℕ → ℕ → Bool) (label : ℕ → ℕ) (net : Ne
       (λ e.
       let d = same-ne v t e in
       (λ x l w. let y = entry-begins c v t l b d w .1 in omega arith, entry-none c v t d))
-
--- in a climbing labelling every free entry to another node is the first node of a shortest lawful path
-pub free-entry : (n : ℕ) (edge : ℕ → ℕ → Bool) (label : ℕ → ℕ) → Network n edge → Climbing n edge label → (v t : ℕ) → v < n → t < n → (v ≡ t → ⊥)
-    → Begins (LawfulTo edge label v t) (entry n edge label t true v) × (entry n edge label t true v < n)
-free-entry n edge label net climbing v t a b d =
-    let w = climbing-way n edge label climbing (net .undirected) v t a b in
-    entry-begins n edge label net (climbing .distinct) true v t (w .0) b d (w .1)

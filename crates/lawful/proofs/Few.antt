@@ -12,7 +12,7 @@ use Rattle.finite.proofs.Sum.{count-bound, count-member}
 use Rattle.finite.proofs.Sets.{count-more}
 use Rattle.graph.specs.Network.{Network}
 use Rattle.lawful.specs.Turn.{Climbing}
-use Rattle.lawful.specs.Entry.{layer, entry, after, routeOf}
+use Rattle.lawful.specs.Entry.{layer, entry, freeAfter, routeOf}
 use Rattle.lawful.proofs.Run.{Hop, rise, fall, Run, run-any}
 use Rattle.lawful.proofs.Layers.{side, layer-inside, layer-run, layer-start, run-layer, layer-grow}
 use Rattle.lawful.proofs.Climb.{climbing-run}
@@ -36,7 +36,7 @@ module _ (n : ℕ) (edge : ℕ → ℕ → Bool) (label : ℕ → ℕ) (t : ℕ)
       let s = entry-nearer n edge label t inside low away r in
       let less = s .less in
       let rest = more-near k (s .low) (s .run) (omega arith) in
-      let kept = count-more n (near k (after edge label c v (entry n edge label t c v))) (near (suc k) c) v
+      let kept = count-more n (near k (freeAfter edge label c v (entry n edge label t c v))) (near (suc k) c) v
       (λ x b m. layer-grow n edge label t k (suc k) c x (omega arith) (near-before (s .first) k x m)) l
       (run-layer n edge label t inside (suc k) (hops-run n edge label t inside low r) (le-of-eq e) l)
       (refute _ (λ m.

@@ -1,7 +1,7 @@
 -- The layers hold exactly the nodes with a run of at most so many hops, in either class; they grow, and come to rest.
 use mathlib.Core.Path.{_≡_, refl, sym, _∙_, ap}
 use mathlib.Core.Bool.{Bool, true, false}
-use mathlib.Core.Logic.{_⊎_, inl, inr, ⊎-elim, _↔_}
+use mathlib.Core.Logic.{_⊎_, inl, inr, ⊎-elim}
 use Prim.Native.Nat.{ℕ, zero, suc, _+_, _^_, _≤_, _<_, zero-le}
 use native.Mathlib.Nat.{le-step, not-suc-le-zero, le-of-suc-le-suc, le-dest, add-suc, add-zero}
 use native.Mathlib.Omega.{arith}
@@ -123,10 +123,6 @@ module _ (n : ℕ) (edge : ℕ → ℕ → Bool) (label : ℕ → ℕ) (t : ℕ)
     run-layer (suc k) (hop h r) l b =
         let low = inside _ _ (hop-edge h) in
         layer-more k _ _ b ∙ or-r _ (some-any n _ _ low (hop-leads (at k) h (run-layer k r (le-of-suc-le-suc l) low)))
-
-    -- a layer's members in the class are the nodes with a run of at most so many hops
-    pub layer-iff : (k : ℕ) (c : Bool) (v : ℕ) → v < n → (member k c v ≡ true) ↔ Within edge label c v t k
-    layer-iff k c v l = (layer-run k c v, λ w. run-layer k (w .run) (w .near) l)
 
   -- ---- layers come to rest
 

@@ -6,6 +6,5 @@ pub mod Climb
 pub mod Entries
 pub mod Routes
 pub mod Rank
-pub mod Local
 pub mod Few
 pub mod Width

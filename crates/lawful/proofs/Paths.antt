@@ -9,7 +9,7 @@ use lib.ListN.{length, getD}
 use Rattle.finite.specs.Truth.{_&_}
 use Rattle.finite.proofs.Truth.{no-tf, bcase, iff, refute, both, and-l, and-r, non-true, non-false, true-non, same-eq, below-lt, lt-below}
 use Rattle.lawful.specs.Turn.{rises, falls, prohibited, Distinct}
-use Rattle.lawful.specs.Path.{onward, isPath, permitted, isLawful, isFalling, LawfulTo, FallsTo, Shortest}
+use Rattle.lawful.specs.Path.{onward, isPath, permitted, isLawful, allFall, LawfulTo, FallsTo, Shortest}
 use Rattle.lawful.proofs.Run.{Hop, rise, fall, Run, done, hop, Fewest, rises-edge, rises-lt, falls-edge, falls-lt, rise-or-fall}
 
 -- the paths that a message of the class may follow: lawful ones while it is free, falls only once it is falling
@@ -37,7 +37,7 @@ pub record WayWithin (edge : ℕ → ℕ → Bool) (label : ℕ → ℕ) (c : Bo
   pub short : length list ≤ k
 
 module _ (edge : ℕ → ℕ → Bool) (label : ℕ → ℕ) where
-  -- 01: a prohibited turn is "a fall directly followed by a rise"
+  -- a lawful path in classes, RULES 4.5: "no fall is directly followed by a rise"
   pub prohibited-turn : (b a c : ℕ) → edge b a ≡ true → edge a c ≡ true → prohibited label b a c ≡ falls edge label b a & rises edge label a c
   unfolding prohibited falls rises
   prohibited-turn b a c e f =
@@ -52,13 +52,13 @@ module _ (edge : ℕ → ℕ → Bool) (label : ℕ → ℕ) where
   turn-risen v u [] h = refl
   turn-risen v u (w ∷ l) h = true-non (refute _ (λ t. let b = below-lt _ _ (and-l _ _ t) in omega arith))
 
-  turn-falling : (v u : ℕ) (l : List ℕ) → isFalling edge label u l ≡ true → permitted label v u l ≡ true
+  turn-falling : (v u : ℕ) (l : List ℕ) → allFall edge label u l ≡ true → permitted label v u l ≡ true
   unfolding prohibited
   turn-falling v u [] h = refl
   turn-falling v u (w ∷ l) h =
       let f = falls-lt edge label u w (and-l _ _ h) in true-non (refute _ (λ t. let b = below-lt _ _ (and-r _ _ t) in omega arith))
 
-  falling-lawful : (v : ℕ) (l : List ℕ) → isFalling edge label v l ≡ true → isLawful label v l ≡ true
+  falling-lawful : (v : ℕ) (l : List ℕ) → allFall edge label v l ≡ true → isLawful label v l ≡ true
   falling-lawful v [] h = refl
   falling-lawful v (u ∷ l) h = both (turn-falling v u l (and-r _ _ h)) (falling-lawful u l (and-r _ _ h))
 
@@ -89,7 +89,7 @@ module _ (edge : ℕ → ℕ → Bool) (label : ℕ → ℕ) where
 
 module _ (edge : ℕ → ℕ → Bool) (label : ℕ → ℕ) (distinct : Distinct edge label) where
   -- no fall is followed by a rise: that turn is prohibited
-  stays-falling : (v u : ℕ) (l : List ℕ) → label u < label v → isPath edge u l ≡ true → isLawful label v (u ∷ l) ≡ true → isFalling edge label u l ≡ true
+  stays-falling : (v u : ℕ) (l : List ℕ) → label u < label v → isPath edge u l ≡ true → isLawful label v (u ∷ l) ≡ true → allFall edge label u l ≡ true
   unfolding prohibited
   stays-falling v u [] d p h = refl
   stays-falling v u (w ∷ l) d p h =
@@ -147,15 +147,3 @@ module _ (edge : ℕ → ℕ → Bool) (label : ℕ → ℕ) (distinct : Distinc
         let b = turn-back t l h w o in let j = f _ (way-run c v t (b .list) (b .way)) in absurd (omega arith)));
     least = λ m a. let b = f _ (way-run c v t m a) in omega arith;
   }
-
-  -- a shortest path has as few hops as any run
-  pub shortest-fewest : (c : Bool) (v t : ℕ) (l : List ℕ) → Shortest (WayTo edge label c v t) l → Fewest edge label c v t (length l)
-  shortest-fewest c v t l s j r = let w = run-way r in let b = s .least (w .list) (w .way) in omega arith
-
-  -- a shortest run gives a shortest path with as many hops
-  pub fewest-shortest : {c : Bool} {v t k : ℕ} → Run edge label c v t k → Fewest edge label c v t k
-      → (l : List ℕ) × Shortest (WayTo edge label c v t) l × (length l ≡ k)
-  fewest-shortest {c} {v} {t} {k} r f =
-      let w = run-way r in
-      let least = f _ (way-run c v t (w .list) (w .way)) in
-      (w .list, record { is = w .way; least = λ m a. let b = f _ (way-run c v t m a) in omega arith }, omega arith)

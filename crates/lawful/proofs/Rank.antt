@@ -29,12 +29,6 @@ module _ (m : ℕ) (edge : ℕ → ℕ → Bool) (label : ℕ → ℕ) where
   unfolding rank
   fall-rank v u h = let l : label u ≤ label v = le-of-lt (falls-lt edge label v u h) in rw (le-below l, rank)
 
-  pub rise-rank-le : (v u : ℕ) → rises edge label v u ≡ true → label u ≤ m → rank m label v u ≤ m
-  rise-rank-le v u h b = let e = rise-rank v u h in omega arith
-
-  pub fall-rank-gt : (v u : ℕ) → falls edge label v u ≡ true → label u ≤ m → m < rank m label v u
-  fall-rank-gt v u h b = let e = fall-rank v u h in omega arith
-
   -- a hop ranks above the one before it: rise then rise, rise then fall, fall then fall
   pub rank-rises : {c d e : Bool} {v u w : ℕ} → Hop edge label c v d u → Hop edge label d u e w → label u ≤ m → rank m label v u < rank m label u w
   rank-rises (rise h) (rise g) b =

@@ -6,17 +6,17 @@ use mathlib.Core.Logic.{_↔_, _⊎_, inl, inr}
 use Prim.Native.Nat.{ℕ, zero, suc, _+_, _≤_, _<_, zero-le}
 use native.Mathlib.Nat.{le-of-suc-le-suc, le-of-lt}
 use native.Mathlib.Omega.{arith}
-use lib.ListN.{length, getD}
+use lib.ListN.{length}
 use Rattle.finite.specs.Truth.{same}
 use Rattle.finite.specs.Sets.{has}
 use Rattle.finite.proofs.Truth.{no-tf, bcase, same-eq, same-ne, ne-same, same-refl}
 use Rattle.graph.specs.Network.{Network}
 use Rattle.lawful.specs.Turn.{Distinct, Climbing}
 use Rattle.lawful.specs.Path.{LawfulTo, Shortest}
-use Rattle.lawful.specs.Entry.{layer, firstLayer, entry, after, follow, routeOf}
+use Rattle.lawful.specs.Entry.{layer, firstLayer, entry, freeAfter, follow, routeOf}
 use Rattle.lawful.proofs.Run.{Hop, Run, done, hop, Fewest, hop-after}
 use Rattle.lawful.proofs.Layers.{side, layer-run, run-layer}
-use Rattle.lawful.proofs.Paths.{WayTo, path-inside, run-way, way-run, way-none, hop-shortest}
+use Rattle.lawful.proofs.Paths.{WayTo, run-way, way-run, way-none, hop-shortest}
 use Rattle.lawful.proofs.Climb.{climbing-way}
 use Rattle.lawful.proofs.Entries.{entry-starts, first-bound}
 
@@ -27,9 +27,9 @@ hopsOf n edge label t c v = elim (same v t) [ true ↦ 0 | false ↦ suc (firstL
 -- after a hop from v to u a message that had k + 1 hops to go has k
 pub record Nearer (n : ℕ) (edge : ℕ → ℕ → Bool) (label : ℕ → ℕ) (t : ℕ) (c : Bool) (v u : ℕ) : Type 0 where
   pub low : u < n
-  pub first : Hop edge label c v (after edge label c v u) u
-  pub run : Run edge label (after edge label c v u) u t (hopsOf n edge label t (after edge label c v u) u)
-  pub less : hopsOf n edge label t c v ≡ suc (hopsOf n edge label t (after edge label c v u) u)
+  pub first : Hop edge label c v (freeAfter edge label c v u) u
+  pub run : Run edge label (freeAfter edge label c v u) u t (hopsOf n edge label t (freeAfter edge label c v u) u)
+  pub less : hopsOf n edge label t c v ≡ suc (hopsOf n edge label t (freeAfter edge label c v u) u)
 
 module _ (n : ℕ) (edge : ℕ → ℕ → Bool) (label : ℕ → ℕ) (t : ℕ) where
   abbrev hops : Bool → ℕ → ℕ
@@ -102,14 +102,14 @@ module _ (edge : ℕ → ℕ → Bool) (label : ℕ → ℕ) (next : Bool → �
   follow-here (suc k) c = rw (same-refl t, follow)
 
   pub follow-there : (k : ℕ) (c : Bool) (v : ℕ) → (v ≡ t → ⊥)
-      → follow edge label next t (suc k) c v ≡ next c v ∷ follow edge label next t k (after edge label c v (next c v)) (next c v)
+      → follow edge label next t (suc k) c v ≡ next c v ∷ follow edge label next t k (freeAfter edge label c v (next c v)) (next c v)
   unfolding follow
   follow-there k c v d = rw (ne-same d, follow)
 
 -- two ways of following lead along the same nodes where they agree on all that is met: P holds of each class and node on the way
 pub follow-agree : (edge link : ℕ → ℕ → Bool) (label mark : ℕ → ℕ) (next step : Bool → ℕ → ℕ) (t : ℕ) (P : Bool → ℕ → Type 0)
     → ((c : Bool) (v : ℕ) → P c v → (v ≡ t → ⊥)
-    → (next c v ≡ step c v) × (after edge label c v (next c v) ≡ after link mark c v (next c v)) × P (after edge label c v (next c v)) (next c v))
+    → (next c v ≡ step c v) × (freeAfter edge label c v (next c v) ≡ freeAfter link mark c v (next c v)) × P (freeAfter edge label c v (next c v)) (next c v))
     → (k : ℕ) (c : Bool) (v : ℕ) → P c v → follow edge label next t k c v ≡ follow link mark step t k c v
 unfolding follow
 follow-agree edge link label mark next step t P agree zero c v p = refl
@@ -122,7 +122,7 @@ follow-agree edge link label mark next step t P agree (suc k) c v p =
     follow-there edge label next t k c v d
     ∙ ap₂ _∷_ x
     (follow-agree edge link label mark next step t P agree k _ _ q ∙ ap (λ (b : Bool). on b (next c v)) y
-    ∙ ap (λ (u : ℕ). on (after link mark c v u) u) x)
+    ∙ ap (λ (u : ℕ). on (freeAfter link mark c v u) u) x)
     ∙ sym (follow-there link mark step t k c v d))
 
 -- a message to its own node has no hops to go
@@ -142,7 +142,7 @@ module _ (n : ℕ) (edge : ℕ → ℕ → Bool) (label : ℕ → ℕ) (inside :
     count = sym (hops-zero n edge label t c v .1 e);
   }
 
-  route-more : {c : Bool} {v t u : ℕ} (l : List ℕ) → t < n → Nearer n edge label t c v u → IsRoute n edge label (after edge label c v u) u t l
+  route-more : {c : Bool} {v t u : ℕ} (l : List ℕ) → t < n → Nearer n edge label t c v u → IsRoute n edge label (freeAfter edge label c v u) u t l
       → IsRoute n edge label c v t (u ∷ l)
   route-more {c} {v} {t} {u} l low s i = record {
     shortest = hop-shortest edge label distinct t l (s .first) (i .shortest .is) (let e = i .count in omega arith)
@@ -171,17 +171,6 @@ module _ (n : ℕ) (edge : ℕ → ℕ → Bool) (label : ℕ → ℕ) (net : Ne
   route-shortest v t l low w =
       let r = way-run edge label distinct true v t l w in
       follow-route n edge label (net .inside) distinct (n + n) low r (le-of-lt (hops-bound n edge label t (net .inside) low r))
-
-  pub route-length : (v t : ℕ) (l : List ℕ) → t < n → LawfulTo edge label v t l → length (routeOf n edge label v t) < n + n
-  route-length v t l low w =
-      let e = route-shortest v t l low w .count in
-      let b = hops-bound n edge label t (net .inside) low (way-run edge label distinct true v t l w) in
-      omega arith
-
-  -- all its nodes are nodes of the network
-  pub route-inside : (v t : ℕ) (l : List ℕ) → t < n → LawfulTo edge label v t l
-      → (i : ℕ) → i < length (routeOf n edge label v t) → getD (routeOf n edge label v t) i 0 < n
-  route-inside v t l low w = path-inside edge (net .inside) v (routeOf n edge label v t) (route-shortest v t l low w .shortest .is .path)
 
 -- some way leads from v to t, or none does: the layers decide it
 pub way-or-none : (n : ℕ) (edge : ℕ → ℕ → Bool) (label : ℕ → ℕ) → Network n edge → Distinct edge label → (c : Bool) (v t : ℕ) → v < n → t < n

@@ -6,7 +6,7 @@ use native.Mathlib.Omega.{arith}
 use Rattle.finite.specs.Truth.{_&_, below}
 use Rattle.finite.proofs.Truth.{bcase, refute, both, and-l, and-r, and-true, false-and, below-lt, below-le, lt-below}
 use Rattle.lawful.specs.Turn.{rises, falls, Distinct}
-use Rattle.lawful.specs.Entry.{after}
+use Rattle.lawful.specs.Entry.{freeAfter}
 
 -- a hop from v to u, with the class before and after it: a free message may rise and stays free then, either may fall and is falling then
 pub data Hop (edge : ℕ → ℕ → Bool) (label : ℕ → ℕ) : Bool → ℕ → Bool → ℕ → Type 0 where
@@ -59,8 +59,8 @@ module _ {edge : ℕ → ℕ → Bool} {label : ℕ → ℕ} where
   hop-edge (rise h) = rises-edge edge label _ _ h
   hop-edge (fall h) = falls-edge edge label _ _ h
 
-  pub hop-after : {c d : Bool} {v u : ℕ} → Hop edge label c v d u → after edge label c v u ≡ d
-  unfolding after
+  pub hop-after : {c d : Bool} {v u : ℕ} → Hop edge label c v d u → freeAfter edge label c v u ≡ d
+  unfolding freeAfter
   hop-after (rise h) = and-true _ ∙ h
   hop-after (fall {c = c} {v = v} {u = u} h) =
       ap (λ (b : Bool). c & b)

@@ -34,11 +34,11 @@ lowestLead n edge label s class v = least n (leads edge label s class v)
 unfoldable pub firstLayer : ℕ → (ℕ → ℕ → Bool) → (ℕ → ℕ) → ℕ → Bool → ℕ → ℕ
 firstLayer n edge label t class v = least (n + n) (λ k. any n (leads edge label (layer n edge label t k) class v))
 
--- 01: "255 exactly when none exists"
+-- RULES 5.3: "255 exactly when there is none"
 abbrev pub none : ℕ
 none = 255
 
--- 01: "For t = v it is v"; else the lowest node that begins a shortest way
+-- RULES 5.2: "For t = v it is v."; else the lowest node that begins a shortest way
 unfoldable pub entry : ℕ → (ℕ → ℕ → Bool) → (ℕ → ℕ) → ℕ → Bool → ℕ → ℕ
 entry n edge label t class v =
     elim (same v t) [
@@ -47,9 +47,9 @@ entry n edge label t class v =
           let u : ℕ = lowestLead n edge label (layer n edge label t (firstLayer n edge label t class v)) class v in elim (below u n) [ true ↦ u | false ↦ none ]
     ]
 
--- the class after a hop from v to u: 01, "A message starts free and becomes falling after its first fall."
-unfoldable pub after : (ℕ → ℕ → Bool) → (ℕ → ℕ) → Bool → ℕ → ℕ → Bool
-after edge label class v u = class & rises edge label v u
+-- the class after a hop from v to u, RULES 5.1: "It starts free and becomes falling with its first fall."
+unfoldable pub freeAfter : (ℕ → ℕ → Bool) → (ℕ → ℕ) → Bool → ℕ → ℕ → Bool
+freeAfter edge label class v u = class & rises edge label v u
 
 -- the nodes after v on the route that follows the entries `next class v`, k hops at the most
 unfoldable pub follow : (ℕ → ℕ → Bool) → (ℕ → ℕ) → (Bool → ℕ → ℕ) → ℕ → ℕ → Bool → ℕ → List ℕ
@@ -57,7 +57,7 @@ follow edge label next t zero class v = []
 follow edge label next t (suc k) class v =
     elim (same v t) [
       | true ↦ []
-      | false ↦ let u : ℕ = next class v in u ∷ follow edge label next t k (after edge label class v u) u
+      | false ↦ let u : ℕ = next class v in u ∷ follow edge label next t k (freeAfter edge label class v u) u
     ]
 
 -- the route of a free message from v to t

@@ -12,7 +12,7 @@ abbrev pub onward : ℕ → List ℕ → Bool
 onward a [] = true
 onward a (c ∷ l) = non (same a c)
 
--- 01: "A path (no step straight back)": neighbours in a row
+-- RULES 4.5: "A path goes from neighbour to neighbour and takes no step straight back."
 abbrev pub isPath : (ℕ → ℕ → Bool) → ℕ → List ℕ → Bool
 isPath edge v [] = true
 isPath edge v (u ∷ l) = edge v u & onward v l & isPath edge u l
@@ -22,38 +22,38 @@ abbrev pub permitted : (ℕ → ℕ) → ℕ → ℕ → List ℕ → Bool
 permitted label b a [] = true
 permitted label b a (c ∷ l) = non (prohibited label b a c)
 
--- 01: a path "is lawful exactly when it has no prohibited turn"
+-- RULES 4.5: "It is lawful exactly when it has no prohibited turn"
 abbrev pub isLawful : (ℕ → ℕ) → ℕ → List ℕ → Bool
 isLawful label v [] = true
 isLawful label v (u ∷ l) = permitted label v u l & isLawful label u l
 
 -- every hop falls
-abbrev pub isFalling : (ℕ → ℕ → Bool) → (ℕ → ℕ) → ℕ → List ℕ → Bool
-isFalling edge label v [] = true
-isFalling edge label v (u ∷ l) = falls edge label v u & isFalling edge label u l
+abbrev pub allFall : (ℕ → ℕ → Bool) → (ℕ → ℕ) → ℕ → List ℕ → Bool
+allFall edge label v [] = true
+allFall edge label v (u ∷ l) = falls edge label v u & allFall edge label u l
 
 -- the node at the end
-abbrev pub endOf : ℕ → List ℕ → ℕ
-endOf v [] = v
-endOf v (u ∷ l) = endOf u l
+abbrev pub lastOf : ℕ → List ℕ → ℕ
+lastOf v [] = v
+lastOf v (u ∷ l) = lastOf u l
 
 -- l leads from v to t on a lawful path; on a path of falls only
 pub record LawfulTo (edge : ℕ → ℕ → Bool) (label : ℕ → ℕ) (v t : ℕ) (l : List ℕ) : Type 0 where
   pub path : isPath edge v l ≡ true
   pub lawful : isLawful label v l ≡ true
-  pub arrives : endOf v l ≡ t
+  pub arrives : lastOf v l ≡ t
 
 pub record FallsTo (edge : ℕ → ℕ → Bool) (label : ℕ → ℕ) (v t : ℕ) (l : List ℕ) : Type 0 where
   pub path : isPath edge v l ≡ true
-  pub falling : isFalling edge label v l ≡ true
-  pub arrives : endOf v l ≡ t
+  pub falling : allFall edge label v l ≡ true
+  pub arrives : lastOf v l ≡ t
 
 -- l is a shortest of the lists that pass P
 pub record Shortest (P : List ℕ → Type 0) (l : List ℕ) : Type 0 where
   pub is : P l
   pub least : (m : List ℕ) → P m → length l ≤ length m
 
--- 01: "the first node after v on a shortest [..] path [..], lowest number where several begin one"
+-- RULES 5.2: "the first node after v on a shortest [..] path [..], the lowest number where several begin one"
 pub record Begins (P : List ℕ → Type 0) (u : ℕ) : Type 0 where
   pub rest : List ℕ
   pub shortest : Shortest P (u ∷ rest)

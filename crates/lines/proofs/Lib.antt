@@ -1,3 +1,3 @@
 pub mod Whole
 pub mod Printed
-pub mod Tight
+pub mod Determined

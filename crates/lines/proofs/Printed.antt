@@ -9,11 +9,11 @@ use Rattle.refusal.specs.declared.Verdict.{Verdict}
 use Rattle.refusal.specs.declared.Verdict.the-variants.{Fine, Fault}
 use Rattle.laid.specs.Laid.{Page}
 use Rattle.laid.specs.Lays.{Lays}
-use Rattle.written.specs.declared.Written.{Written}
-use Rattle.written.specs.declared.Written.the-variants.{Bytes}
-use Rattle.written.specs.Written.{Writes, roomFor}
-use Rattle.written.proofs.Placed.{writes-as, lays-writes, room-fine}
-use Rattle.written.proofs.Meaning.{not-refused}
+use Rattle.results.specs.declared.Written.{Written}
+use Rattle.results.specs.declared.Written.the-variants.{Bytes}
+use Rattle.results.specs.Written.{Writes, roomFor}
+use Rattle.results.proofs.Placed.{writes-as, lays-writes, room-fine}
+use Rattle.results.proofs.Meaning.{not-refused}
 use Rattle.lines.specs.Lines.{refusalLine, longestRefusal, orRefused}
 
 fine : (v : Verdict) (bytes : List ℕ) → v ≡ Fine → bytes ≡ orRefused v bytes

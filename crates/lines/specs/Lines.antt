@@ -1,4 +1,4 @@
--- 01, "Programs": "Fields of a printed line stand one space apart; a line feed closes it."
+-- RULES 10.1: "Fields of a printed line are one space apart, and a line feed ends it."
 use mathlib.Core.List.{List, [], _∷_, _++_}
 use Prim.Native.Nat.{ℕ}
 use Rattle.laid.specs.Laid.{Page, behind}
@@ -32,11 +32,11 @@ withFields p (n ∷ ns) = withFields (withField p n) ns
 unfoldable pub withLine : Page → List ℕ → List ℕ → Page
 withLine p first numbers = behind (withFields (behind p first) numbers) (10 ∷ [])
 
--- "refused"
+-- the word `refused`
 abbrev pub refusedWord : List ℕ
 refusedWord = 114 ∷ 101 ∷ 102 ∷ 117 ∷ 115 ∷ 101 ∷ 100 ∷ []
 
--- "`refused`, number, place"
+-- RULES 10.1: "`refused`, number, place"
 unfoldable pub refusalLine : Refusal → List ℕ
 refusalLine r = lineOf refusedWord (numberOf r ∷ placeOf r ∷ [])
 
@@ -44,7 +44,7 @@ refusalLine r = lineOf refusedWord (numberOf r ∷ placeOf r ∷ [])
 abbrev pub longestRefusal : ℕ
 longestRefusal = 52
 
--- "All print only `refused`, number, place on a refusal.": these bytes, or the line of the refusal
+-- RULES 10.1: "On a refusal it prints only `refused`, number, place.": these bytes, or the line of the refusal
 unfoldable pub orRefused : Verdict → List ℕ → List ℕ
 orRefused Fine bytes = bytes
 orRefused (Fault r) bytes = refusalLine r

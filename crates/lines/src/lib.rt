@@ -1,10 +1,10 @@
 // Lines that programs print: a word or a number, further numbers one space apart, a line feed; and how a program writes what it has laid.
 ghost use mathlib.Core.Path.{_≡_};
 ghost use Rattle.laid.specs.Laid.{page};
-ghost use Rattle.written.specs.Written.{Writes, roomFor};
+ghost use Rattle.results.specs.Written.{Writes, roomFor};
 ghost use Rattle.lines.specs.Lines.{withField, withFields, withLine, refusalLine, longestRefusal};
 use refusal::Refusal;
-use written::Written;
+use results::Written;
 
 // How long the line of a refusal is at the most.
 pub const LONGEST_REFUSAL: usize = 52;

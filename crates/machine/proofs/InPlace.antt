@@ -13,13 +13,12 @@ use Rattle.finite.proofs.Lists.{tabulate-cong}
 use Rattle.messages.specs.Sizes.{maxPairs}
 use Rattle.messages.specs.declared.Record.{Record}
 use Rattle.messages.specs.declared.Answer.the-variants.{Already, Moved, Blocked, Delivered}
-use Rattle.messages.specs.Step.{head, target, isFalling, isDelivered, nextNode, channel, nextChannel, holder, classIn, counted, released, moved, arrived, with, refusedOf, stepOf}
+use Rattle.messages.specs.Step.{head, target, isFalling, isDelivered, nextIn, nextNode, channel, nextChannel, holder, classIn, counted, released, moved, arrived, with, refusedOf, stepOf}
 use Rattle.messages.specs.Tells.{FreeFrom}
 use Rattle.messages.specs.Ready.{messagesOf}
 use Rattle.messages.proofs.Moves.{there, step-none, step-already, step-delivered, step-blocked, step-moved}
 use Rattle.messages.proofs.Changes.{released-other}
-use Rattle.machine.specs.InPlace.{packed, told, leftIn, givenBack, arriving, arrivedIn, stepIn}
-use Rattle.machine.proofs.Told.{next-told}
+use Rattle.machine.specs.InPlace.{packed, leftIn, givenBack, arriving, arrivedIn, stepIn}
 
 module _ (span holder : ℕ) (holders : List ℕ) (c : ℕ) where
   pub left-below : c < span → leftIn span holder holders c ≡ released holder (getD holders c 0)
@@ -98,8 +97,8 @@ module _ (span : ℕ) (r : Record) (m : ℕ) where
           let now = arrives (both (there r m low) (both (true-non d) (eq-same (sym here ∙ e ∙ goal)))) in
           cc
 
-      module _ (apart : at ≡ to → ⊥) {next c by : ℕ}
-          (hop : next ≡ nextNode (told (r .nodes) (r .free) (r .falling) (r .targets) (r .heads) (r .classes) [] []) m) (way : c ≡ channel at next)
+      module _ (apart : at ≡ to → ⊥) {class next c by : ℕ} (sort : class ≡ getD (r .classes) m 0)
+          (hop : next ≡ nextIn (r .nodes) (r .free) (r .falling) at to class) (way : c ≡ channel at next)
           (who : by ≡ getD (r .holders) c 0) where
         not-there : head r m ≡ target r m → ⊥
         not-there e = apart (here ∙ e ∙ sym goal)
@@ -108,7 +107,8 @@ module _ (span : ℕ) (r : Record) (m : ℕ) where
         onward = not-arriving (λ a b. not-there)
 
         hop-is : next ≡ nextNode r m
-        hop-is = hop ∙ next-told r m
+        unfolding nextNode
+        hop-is = cc
 
         way-is : c ≡ nextChannel r m
         way-is = let n = hop-is in cc
@@ -120,14 +120,14 @@ module _ (span : ℕ) (r : Record) (m : ℕ) where
         blocked-in h =
             ap (λ (x : ℕ). with r (Blocked (x - 1))) who-is ∙ sym (onward ∙ step-blocked r m low d not-there (λ q. h (who-is ∙ q)))
 
-        pub moved-in : {moves sort class : ℕ} {heads classes holders : List ℕ} → by ≡ 0 → moves ≡ counted (r .moves) → sort ≡ getD (r .classes) m 0
-            → class ≡ classIn (r .labels) (non (same sort 0)) at next
-            → heads ≡ set (r .heads) m next → classes ≡ set (r .classes) m class → holders ≡ set (r .holders) c (m + 1)
+        pub moved-in : {moves then : ℕ} {heads classes holders : List ℕ} → by ≡ 0 → moves ≡ counted (r .moves)
+            → then ≡ classIn (r .labels) (non (same class 0)) at next
+            → heads ≡ set (r .heads) m next → classes ≡ set (r .classes) m then → holders ≡ set (r .holders) c (m + 1)
             → with (packed (r .nodes) (r .messages) moves (r .labels) (r .free) (r .falling) (r .targets) heads classes (r .delivered) holders) Moved ≡ stepIn span r m
         unfolding moved isFalling
-        moved-in z count sort class h k held =
+        moved-in z count fall h k held =
             let one = add-one m in
             let n = hop-is in
             let w = way-is in
-            let then = onward ∙ step-moved r m low d not-there (sym who-is ∙ z) in
+            let after = onward ∙ step-moved r m low d not-there (sym who-is ∙ z) in
             cc

@@ -1,4 +1,2 @@
-pub mod Fresh
-pub mod Told
 pub mod InPlace
-pub mod Tight
+pub mod Determined

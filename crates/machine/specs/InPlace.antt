@@ -1,6 +1,6 @@
 -- A move in arrays that stay in their place: that of the record which they make, but a message that arrives gives back only channels below a bound.
 use mathlib.Core.Bool.{Bool, true, false}
-use mathlib.Core.List.{List, []}
+use mathlib.Core.List.{List}
 use Prim.Native.Nat.{ℕ, suc}
 use lib.ListN.{length, getD, set}
 use Rattle.finite.specs.Truth.{_&_, non, same, below}
@@ -26,10 +26,6 @@ packed nodes messages moves labels free falling targets heads classes delivered 
   delivered = delivered;
   holders = holders;
 }
-
--- a record of which only that is told what makes a message ready
-abbrev pub told : ℕ → List ℕ → List ℕ → List ℕ → List ℕ → List ℕ → List ℕ → List ℕ → Record
-told nodes free falling targets heads classes delivered holders = packed nodes 0 0 [] free falling targets heads classes delivered holders
 
 -- channel c's holder, and all holders, once `holder` has given back what it holds of the channels below `span`
 unfoldable pub leftIn : ℕ → ℕ → List ℕ → ℕ → ℕ

@@ -1,50 +1,33 @@
-// What is ahead of a message, by the arrays that tell it: its next node and channel, and its class after the hop.
+// What is ahead of a message: its next node and channel, and its class after the hop.
 ghost use mathlib.Core.Path.{_≡_};
-ghost use mathlib.Core.List.{[]};
-ghost use Prim.Native.Nat.{_+_, _*_, min};
 ghost use lib.ListN.{getD};
 ghost use Rattle.finite.specs.Truth.{non, same};
-ghost use Rattle.nodes.specs.Limits.{maxNodes};
-ghost use Rattle.messages.specs.Step.{nextNode, channel, classIn};
-ghost use Rattle.machine.specs.InPlace.{told};
-use crate::arrays;
+ghost use Rattle.messages.specs.Step.{placeIn, nextIn, channel, classIn};
 use nodes::MAX_NODES;
 
 // Is a message marked among these bytes, one a message?
 pub fn marked(bytes: &[u8], message: usize) -> bool
     ensures { λ r. ⌜ r ≡ non (same (getD (now (bytes .entry)) message 0) 0) ⌝ }
 {
-    arrays::byte(bytes, message) != 0
+    slices::byte(bytes, message) != 0
 }
 
 // The place of the entry in row `head` and column `target` of a table. More than 64 nodes count as 64.
 fn place(nodes: usize, head: u8, target: u8) -> usize
-    ensures { λ r. ⌜ r ≡ head * min nodes maxNodes + target ⌝ }
+    ensures { λ r. ⌜ r ≡ placeIn nodes head target ⌝ }
 {
     (head as usize) * nodes::capped(nodes) + (target as usize)
 }
 
-// The node after a message's head: an entry of its class's table.
-pub fn next_in(
-    nodes: usize,
-    free: &[u8],
-    falling: &[u8],
-    targets: &[u8],
-    heads: &[u8],
-    classes: &[u8],
-    message: usize,
-) -> u8
-    ensures { λ r. ⌜ r ≡ nextNode (told nodes (now (free .entry)) (now (falling .entry)) (now (targets .entry)) (now (heads .entry)) (now (classes .entry)) [] []) message ⌝ }
+// The node after `head` on the way to `target`: an entry of the class's table.
+pub fn next_in(nodes: usize, free: &[u8], falling: &[u8], head: u8, target: u8, class: u8) -> u8
+    ensures { λ r. ⌜ r ≡ nextIn nodes (now (free .entry)) (now (falling .entry)) head target class ⌝ }
 {
-    let i = place(
-        nodes,
-        arrays::byte(heads, message),
-        arrays::byte(targets, message),
-    );
-    if marked(classes, message) {
-        return arrays::byte(falling, i);
+    let i = place(nodes, head, target);
+    if class != 0 {
+        return slices::byte(falling, i);
     }
-    arrays::byte(free, i)
+    slices::byte(free, i)
 }
 
 // A message's class after its hop from `head` to `next`: falling after a fall, and from then on.
@@ -54,8 +37,8 @@ pub fn class_after(labels: &[u8], class: u8, head: u8, next: u8) -> u8
     if class != 0 {
         return 1;
     }
-    let above = arrays::byte(labels, head as usize);
-    let after = arrays::byte(labels, next as usize);
+    let above = slices::byte(labels, head as usize);
+    let after = slices::byte(labels, next as usize);
     if after < above { 1 } else { 0 }
 }
 

@@ -8,7 +8,8 @@ use lib.ListN.{length, getD, length-set}
 use Rattle.finite.specs.Truth.{_or_, non, same}
 use Rattle.finite.proofs.Truth.{bcase, false-non, true-non, non-true, or-l, or-false, same-eq, same-ne, eq-same, ne-same, same-refl}
 use Rattle.finite.proofs.Lists.{tabulate-length}
-use Rattle.lawful.specs.Entry.{after}
+use Rattle.lawful.specs.Entry.{freeAfter}
+use Rattle.lawful.specs.Turn.{labelIn}
 use Rattle.lawful.proofs.Run.{Hop, rise, fall, rises-lt, falls-lt}
 use Rattle.claims.specs.Claims.{Progress, Keeping, holds, wanted, taking, finishing, made}
 use Rattle.claims.proofs.Counting.{made-le}
@@ -18,7 +19,7 @@ use Rattle.messages.specs.Sizes.{maxMessages, maxPairs}
 use Rattle.messages.specs.declared.Record.{Record}
 use Rattle.messages.specs.Step.{head, target, isFalling, isDelivered, nextNode, nextChannel, holder, classAfter, counted, released, moved, arrived}
 use Rattle.messages.specs.Fresh.{sourceIn}
-use Rattle.messages.specs.Runs.{labelIn, Tabled, Listed, messagesIn, routeIn, itineraryIn}
+use Rattle.messages.specs.Runs.{Tabled, Listed, messagesIn, routeIn, itineraryIn}
 use Rattle.messages.specs.Tells.{keeps, Says}
 use Rattle.messages.proofs.Moves.{class-fall, class-free}
 use Rattle.messages.proofs.Changes.{released-here, released-other, moved-head, moved-heads, moved-class, moved-classes, moved-holder, moved-holders, arrived-mark, arrived-marks, arrived-holders}
@@ -169,7 +170,7 @@ module _ {n : ℕ} {edge : ℕ → ℕ → Bool} {labels free falling list : Lis
       count = moved-count;
     }
 
-    moved-class-is : non (isFalling (moved r m) m) ≡ after edge (labelIn labels) (non (isFalling r m)) (head r m) (nextNode r m)
+    moved-class-is : non (isFalling (moved r m) m) ≡ freeAfter edge (labelIn labels) (non (isFalling r m)) (head r m) (nextNode r m)
     moved-class-is =
         ap non (moved-class r m (placed (state .kept .classes-size)))
         ∙ hop-class edge labels r m (state .kept .labels-are) refl (next-hop tabled listed state m low d)

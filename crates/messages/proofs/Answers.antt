@@ -1,11 +1,12 @@
--- What each answer tells: "it takes that one channel", blocked "by that message's number", "it is delivered and gives back all its channels", "no other
--- answer changes the record".
+-- What each answer tells, RULES 8.3: "it takes that one channel", "blocked, by the number of that message", "it is delivered and gives back all its channels",
+-- "No other answer changes the record."
 use mathlib.Core.Path.{_≡_, refl, sym, _∙_, ap}
 use mathlib.Core.Bool.{Bool, false}
 use mathlib.Core.List.{List}
 use Prim.Native.Nat.{ℕ, suc, _-_, _<_}
 use native.Mathlib.Omega.{arith}
 use Rattle.finite.proofs.Truth.{no-tf, same-eq}
+use Rattle.lawful.specs.Turn.{labelIn}
 use Rattle.claims.specs.Claims.{Progress, holds, wanted, Exclusive}
 use Rattle.claims.proofs.Holding.{holds-held}
 use Rattle.claims.proofs.Waiting.{not-own}
@@ -13,7 +14,7 @@ use Rattle.messages.specs.declared.Record.{Record}
 use Rattle.messages.specs.declared.Answer.the-variants.{Moved, Blocked}
 use Rattle.messages.specs.declared.Stepped.{Stepped}
 use Rattle.messages.specs.Step.{head, target, isDelivered, nextChannel, holder, moved, arrived, stepOf}
-use Rattle.messages.specs.Runs.{labelIn, Tabled, Listed, messagesIn, itineraryIn, Reached, successful}
+use Rattle.messages.specs.Runs.{Tabled, Listed, messagesIn, itineraryIn, Reached, successful}
 use Rattle.messages.specs.Tells.{keeps, Says, BlockedBy, Took, Arrived, Tells}
 use Rattle.messages.proofs.Moves.{Case, unknown, already, arrives, waits, moves, step-case}
 use Rattle.messages.proofs.Channels.{channelRank}
@@ -25,7 +26,7 @@ use Rattle.messages.proofs.Tried.{known, unknown-high, not-done, holder
 use Rattle.messages.proofs.After.{moved-state, arrived-state}
 use Rattle.messages.proofs.Reached.{reached-state}
 
--- "no other answer changes the record", whatever record it is
+-- RULES 8.3: "No other answer changes the record.", whatever record it is
 pub unchanged : (r : Record) (m : ℕ) → successful (stepOf r m .answer) ≡ false → stepOf r m .«record» ≡ r
 unchanged r m = go (step-case r m)
   where
@@ -36,7 +37,7 @@ unchanged r m = go (step-case r m)
     go (waits l u d b) h = refl
     go (moves l u d z) h = no-tf refl h
 
--- "one message to a directed link": a channel has one holder in the record
+-- RULES 2.3: "One message to a channel": a channel has one holder in the record
 pub one-message : {n : ℕ} {edge : ℕ → ℕ → Bool} {labels list : List ℕ} {r : Record} {s : Progress} → Says n edge labels list r s
     → Exclusive (messagesIn list) (itineraryIn n edge labels list) keeps s
 one-message says a b c i j x y =

@@ -24,7 +24,7 @@ channels-at v [] i b = absurd (not-suc-le-zero b)
 channels-at v (u ∷ l) zero b = refl
 channels-at v (u ∷ l) (suc i) b = channels-at u l i (le-of-suc-le-suc b)
 
--- "Each link makes two channels, one a direction.": two directed links never share a channel number
+-- RULES 8.1: "Each link makes two channels, one for each direction.": two directed links never share a channel number
 pub channel-ends : (a b c d : ℕ) → b < maxNodes → d < maxNodes → channel a b ≡ channel c d → (a ≡ c) × (b ≡ d)
 channel-ends a b c d p q e = (omega arith, omega arith)
 

@@ -1,5 +1,5 @@
--- Demand 3: "in whichever order moves are tried, while any is undelivered some message can move; successful moves never exceed the sum of (shortest lawful
--- hops + 1), reach it exactly when all are delivered, and then every link is free."
+-- Demand 3, RULES 2.3: "In whichever order moves are tried, while a message is undelivered some message can move." "Successful moves never exceed the sum",
+-- "They reach that sum exactly when every message is delivered, and then every channel is free."
 use mathlib.Core.Path.{_≡_, refl, sym, _∙_, ap}
 use mathlib.Core.Bool.{Bool, true, false}
 use mathlib.Core.List.{List}
@@ -42,15 +42,15 @@ module _ {n : ℕ} {edge : ℕ → ℕ → Bool} {labels free falling list : Lis
     state : State n edge labels free falling list r so-far
     state = reached-state tabled listed run .1
 
-    -- "one message to a directed link, links held until delivery": what each message holds, read off the record, is what it holds by the claims
+    -- RULES 2.3: "One message to a channel, channels held until delivery": what each message holds, read off the record, is what it holds by the claims
     pub holding : (s : Progress) × Says n edge labels list r s
     holding = (so-far, state .says)
 
-    -- "while any is undelivered some message can move"
+    -- RULES 2.3: "while a message is undelivered some message can move"
     pub progress : Some k (λ m. non (isDelivered r m)) → Some k (λ m. successful (stepOf r m .answer))
     progress = some-succeeds tabled listed state
 
-    -- "successful moves never exceed the sum of (shortest lawful hops + 1)"
+    -- RULES 2.3: "Successful moves never exceed the sum, over all messages, of (shortest lawful hops + 1)."
     pub never-more : r .moves ≤ allMoves n edge labels list
     never-more =
         let e = state .says .count in
@@ -58,7 +58,7 @@ module _ {n : ℕ} {edge : ℕ → ℕ → Bool} {labels free falling list : Lis
         let w = all-moves-whole tabled listed in
         omega arith
 
-    -- "reach it exactly when all are delivered"
+    -- RULES 2.3: "They reach that sum exactly when every message is delivered"
     pub all-delivered : (r .moves ≡ allMoves n edge labels list) ↔ ((m : ℕ) → m < k → isDelivered r m ≡ true)
     all-delivered =
         let w = made-whole k itinerary so-far (state .says .lawful) in
@@ -79,7 +79,7 @@ module _ {n : ℕ} {edge : ℕ → ℕ → Bool} {labels free falling list : Lis
         let l : b < k = omega arith in
         no-tf (eq-same {a = holder r c} {b = suc b} (omega arith)) (state .says .held c b l ∙ none b l))
 
-    -- "and then every link is free"
+    -- RULES 2.3: "and then every channel is free"
     pub every-link-free : ((m : ℕ) → m < k → isDelivered r m ≡ true) → (c : ℕ) → holder r c ≡ 0
     every-link-free h c = unheld c (λ b l. all-free k itinerary keeps so-far (λ m i. sym (state .says .done m i) ∙ h m i) b l c)
 
@@ -114,7 +114,7 @@ module _ {n : ℕ} {edge : ℕ → ℕ → Bool} {labels free falling list : Lis
     case-counts (waits l u d b) h = no-tf h refl
     case-counts (moves l u d z) h = counts
 
-    -- "Moved and delivered count one successful move each"
+    -- RULES 8.3: "Moved and delivered are one successful move each."
     pub counts-one : (m : ℕ) → successful (stepOf r m .answer) ≡ true → stepOf r m .«record» .moves ≡ suc (r .moves)
     counts-one m = case-counts (step-case r m)
 

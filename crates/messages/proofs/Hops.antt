@@ -7,16 +7,17 @@ use native.Mathlib.Omega.{arith}
 use lib.ListN.{length, getD}
 use Rattle.finite.specs.Truth.{non}
 use Rattle.finite.proofs.Truth.{bcase, false-non, true-non}
-use Rattle.lawful.specs.Entry.{entry, after}
+use Rattle.lawful.specs.Entry.{entry, freeAfter}
 use Rattle.lawful.proofs.Run.{Hop}
 use Rattle.nodes.specs.Limits.{maxNodes}
+use Rattle.lawful.specs.Turn.{labelIn}
 use Rattle.claims.specs.Claims.{Progress, wanted}
 use Rattle.messages.specs.Sizes.{maxMessages, maxPairs}
 use Rattle.messages.specs.declared.Record.{Record}
-use Rattle.messages.specs.Step.{head, target, isFalling, place, tableOf, nextNode, channel, nextChannel}
+use Rattle.messages.specs.Step.{head, target, isFalling, placeIn, nextNode, channel, nextChannel}
 use Rattle.messages.specs.Fresh.{sourceIn, targetIn}
-use Rattle.messages.specs.Runs.{labelIn, Tabled, Listed, messagesIn, routeIn, itineraryIn}
-use Rattle.messages.proofs.Moves.{table-falling, table-free}
+use Rattle.messages.specs.Runs.{Tabled, Listed, messagesIn, routeIn, itineraryIn}
+use Rattle.messages.proofs.Moves.{next-falling, next-free}
 use Rattle.messages.proofs.Channels.{channels-length, channels-at}
 use Rattle.messages.proofs.Way.{way-end, way-hop, way-next}
 use Rattle.messages.proofs.State.{OnRoute, State, few-messages, target-low}
@@ -30,7 +31,7 @@ module _ {n : ℕ} {edge : ℕ → ℕ → Bool} {labels free falling list : Lis
   goes = state .kept .targets m few
 
   -- its entry stands in row `head` and column `target` of the tables of the start
-  place-is : place r m ≡ head r m * n + targetIn list m
+  place-is : placeIn (r .nodes) (head r m) (target r m) ≡ head r m * n + targetIn list m
   place-is =
       let e : min (r .nodes) maxNodes ≡ n = let k = state .kept .nodes in let b = tabled .many in omega arith in
       ap₂ (λ (x y : ℕ). head r m * x + y) e goes
@@ -48,11 +49,10 @@ module _ {n : ℕ} {edge : ℕ → ℕ → Bool} {labels free falling list : Lis
   on-way = state .way m low
 
   -- the entry of class c, where that is its class and its table is the one of that class
-  entry-of : (c : Bool) {rows : List ℕ} → class ≡ c → tableOf r m ≡ rows
+  entry-of : (c : Bool) {table rows : List ℕ} → class ≡ c → nextNode r m ≡ getD table (placeIn (r .nodes) (head r m) (target r m)) 0 → table ≡ rows
       → getD rows (head r m * n + targetIn list m) 0 ≡ entry n edge (labelIn labels) (targetIn list m) c (head r m) → nextNode r m ≡ entry-here
-  unfolding nextNode
-  entry-of c e t h =
-      ap₂ (λ (x : List ℕ) (i : ℕ). getD x i 0) t place-is ∙ h
+  entry-of c e k t h =
+      k ∙ ap₂ (λ (x : List ℕ) (i : ℕ). getD x i 0) t place-is ∙ h
       ∙ ap (λ (b : Bool). entry n edge (labelIn labels) (targetIn list m) b (head r m)) (sym e)
 
   -- the next node is the entry of its class
@@ -60,8 +60,8 @@ module _ {n : ℕ} {edge : ℕ → ℕ → Bool} {labels free falling list : Lis
   next-entry =
       let here = on-way .low in
       bcase (isFalling r m)
-      (λ t. entry-of false (false-non t) (table-falling r m t ∙ state .kept .falling-are) (tabled .falling-rows (head r m) (targetIn list m) here there))
-      (λ t. entry-of true (true-non t) (table-free r m t ∙ state .kept .free-are) (tabled .free-rows (head r m) (targetIn list m) here there))
+      (λ t. entry-of false (false-non t) (next-falling r m t) (state .kept .falling-are) (tabled .falling-rows (head r m) (targetIn list m) here there))
+      (λ t. entry-of true (true-non t) (next-free r m t) (state .kept .free-are) (tabled .free-rows (head r m) (targetIn list m) here there))
 
   -- at its destination it has taken all its channels
   pub all-taken : head r m ≡ target r m → s .taken m ≡ length (itineraryIn n edge labels list m)
@@ -76,7 +76,7 @@ module _ {n : ℕ} {edge : ℕ → ℕ → Bool} {labels free falling list : Lis
     not-there e = d (e ∙ sym goes)
 
     abbrev class-then : Bool
-    class-then = after edge (labelIn labels) class (head r m) (nextNode r m)
+    class-then = freeAfter edge (labelIn labels) class (head r m) (nextNode r m)
 
     pub next-hop : Hop edge (labelIn labels) class (head r m) class-then (nextNode r m)
     next-hop = rw next-entry (way-hop (tabled .network .inside) there on-way not-there)

@@ -5,13 +5,13 @@ use mathlib.Core.List.{List}
 use Prim.Native.Nat.{ℕ, _-_, _<_, _≤_}
 use native.Mathlib.Omega.{arith}
 use lib.ListN.{getD}
-use Rattle.finite.specs.Truth.{_&_, _or_, same, below}
+use Rattle.finite.specs.Truth.{_&_, _or_, non, same, below}
 use Rattle.finite.proofs.Truth.{bcase, refute, both, and-l, and-r, or-l, or-r, or-false, same-eq, same-ne, eq-same, ne-same, below-lt, lt-below, le-below}
 use Rattle.messages.specs.Sizes.{maxMessages}
 use Rattle.messages.specs.declared.Record.{Record}
 use Rattle.messages.specs.declared.Answer.the-variants.{Already, Moved, Blocked, Delivered}
 use Rattle.messages.specs.declared.Stepped.{Stepped}
-use Rattle.messages.specs.Step.{head, target, isFalling, isDelivered, place, tableOf, nextNode, nextChannel, holder, classIn, moved, arrived, with, refusedOf, stepOf}
+use Rattle.messages.specs.Step.{head, target, isFalling, isDelivered, placeIn, nextIn, nextNode, nextChannel, holder, classIn, moved, arrived, with, refusedOf, stepOf}
 use Rattle.messages.specs.Ready.{messagesOf}
 
 module _ (labels : List ℕ) (falling : Bool) (head next : ℕ) where
@@ -32,22 +32,23 @@ module _ (labels : List ℕ) (falling : Bool) (head next : ℕ) where
   unfolding classIn
   class-free h l = rw (h, classIn, or-false, le-below l)
 
+module _ (nodes : ℕ) (free falling : List ℕ) (head target class : ℕ) where
+  pub in-falling : non (same class 0) ≡ true → nextIn nodes free falling head target class ≡ getD falling (placeIn nodes head target) 0
+  unfolding nextIn
+  in-falling h = rw (h, nextIn)
+
+  pub in-free : non (same class 0) ≡ false → nextIn nodes free falling head target class ≡ getD free (placeIn nodes head target) 0
+  unfolding nextIn
+  in-free h = rw (h, nextIn)
+
 module _ (r : Record) (m : ℕ) where
-  pub table-falling : isFalling r m ≡ true → tableOf r m ≡ r .falling
-  unfolding tableOf
-  table-falling h = rw (h, tableOf)
+  pub next-falling : isFalling r m ≡ true → nextNode r m ≡ getD (r .falling) (placeIn (r .nodes) (head r m) (target r m)) 0
+  unfolding nextNode isFalling
+  next-falling h = in-falling _ _ _ _ _ _ h
 
-  pub table-free : isFalling r m ≡ false → tableOf r m ≡ r .free
-  unfolding tableOf
-  table-free h = rw (h, tableOf)
-
-  pub next-falling : isFalling r m ≡ true → nextNode r m ≡ getD (r .falling) (place r m) 0
-  unfolding nextNode
-  next-falling h = ap (λ (t : List ℕ). getD t (place r m) 0) (table-falling h)
-
-  pub next-free : isFalling r m ≡ false → nextNode r m ≡ getD (r .free) (place r m) 0
-  unfolding nextNode
-  next-free h = ap (λ (t : List ℕ). getD t (place r m) 0) (table-free h)
+  pub next-free : isFalling r m ≡ false → nextNode r m ≡ getD (r .free) (placeIn (r .nodes) (head r m) (target r m)) 0
+  unfolding nextNode isFalling
+  next-free h = in-free _ _ _ _ _ _ h
 
   pub step-unknown : below m (r .messages) & below m maxMessages ≡ false → stepOf r m ≡ refusedOf r
   unfolding stepOf

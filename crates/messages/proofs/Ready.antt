@@ -5,34 +5,50 @@ use mathlib.Core.List.{List}
 use mathlib.Core.Logic.{⊎-elim}
 use Prim.Native.Nat.{ℕ, _<_}
 use native.Mathlib.Omega.{arith}
+use lib.ListN.{getD}
 use Rattle.finite.specs.Truth.{_&_, _or_, non, same}
 use Rattle.finite.specs.Search.{Some}
-use Rattle.finite.proofs.Truth.{no-tf, both, non-false, eq-same, ne-same, lt-below}
+use Rattle.finite.proofs.Truth.{no-tf, both, non-true, non-false, eq-same, ne-same, lt-below}
 use Rattle.finite.proofs.Search.{find, every-all, all-every}
 use Rattle.messages.specs.Sizes.{maxMessages}
 use Rattle.messages.specs.declared.Record.{Record}
 use Rattle.messages.specs.declared.Stepped.{Stepped}
-use Rattle.messages.specs.Step.{head, target, isDelivered, nextChannel, holder, stepOf}
+use Rattle.messages.specs.Step.{head, target, isDelivered, nextIn, nextNode, channel, nextChannel, holder, stepOf}
 use Rattle.messages.specs.Runs.{Tabled, Listed, messagesIn, Reached, successful}
-use Rattle.messages.specs.Ready.{messagesOf, ready, allDelivered}
+use Rattle.messages.specs.Ready.{messagesOf, readyIn, ready, allDelivered}
 use Rattle.messages.proofs.Moves.{Case, unknown, already, arrives, waits, moves, step-case}
 use Rattle.messages.proofs.State.{few-messages}
 use Rattle.messages.proofs.Reached.{reached-state}
 use Rattle.messages.proofs.Drain.{progress}
 
+module _ (nodes : ℕ) (free falling holders : List ℕ) (head target class mark : ℕ) where
+  pub in-never : same mark 0 ≡ false → false ≡ readyIn nodes free falling holders head target class mark
+  unfolding readyIn _&_
+  in-never d = rw (d, readyIn)
+
+  module _ (d : same mark 0 ≡ true) where
+    pub in-there : same head target ≡ true → true ≡ readyIn nodes free falling holders head target class mark
+    unfolding readyIn _&_ _or_
+    in-there e = rw (d, readyIn, e)
+
+    pub in-next : same head target ≡ false
+        → same (getD holders (channel head (nextIn nodes free falling head target class)) 0) 0 ≡ readyIn nodes free falling holders head target class mark
+    unfolding readyIn _&_ _or_
+    in-next e = rw (d, readyIn, e)
+
 module _ (r : Record) (m : ℕ) where
-  pub ready-never : isDelivered r m ≡ true → false ≡ ready r m
-  unfolding ready non _&_
-  ready-never d = rw (d, ready)
+  ready-never : isDelivered r m ≡ true → false ≡ ready r m
+  unfolding ready isDelivered
+  ready-never d = in-never _ _ _ _ _ _ _ _ (non-true _ d)
 
   module _ (d : isDelivered r m ≡ false) where
-    pub ready-there : same (head r m) (target r m) ≡ true → true ≡ ready r m
-    unfolding ready non _&_ _or_
-    ready-there e = rw (d, ready, e)
+    ready-there : same (head r m) (target r m) ≡ true → true ≡ ready r m
+    unfolding ready isDelivered
+    ready-there e = in-there _ _ _ _ _ _ _ _ (non-false _ d) e
 
-    pub ready-next : same (head r m) (target r m) ≡ false → same (holder r (nextChannel r m)) 0 ≡ ready r m
-    unfolding ready non _&_ _or_
-    ready-next e = rw (d, ready, e)
+    ready-next : same (head r m) (target r m) ≡ false → same (holder r (nextChannel r m)) 0 ≡ ready r m
+    unfolding ready isDelivered nextNode
+    ready-next e = in-next _ _ _ _ _ _ _ _ (non-false _ d) e
 
   -- ready: a move of it is successful
   pub ready-moves : m < messagesOf r → ready r m ≡ successful (stepOf r m .answer)

@@ -9,6 +9,7 @@ use Rattle.finite.specs.Truth.{non, same}
 use Rattle.finite.proofs.Truth.{no-tf, refute, false-non, true-non, ne-same, same-refl}
 use Rattle.finite.proofs.Sum.{sum-zero}
 use Rattle.finite.proofs.Lists.{getD-zeros, tabulate-length, tabulate-at}
+use Rattle.lawful.specs.Turn.{labelIn}
 use Rattle.lawful.proofs.Climb.{climbing-run}
 use Rattle.claims.specs.Claims.{Progress, made}
 use Rattle.claims.proofs.Holding.{holds-held}
@@ -16,7 +17,7 @@ use Rattle.messages.specs.Sizes.{maxMessages, maxPairs}
 use Rattle.messages.specs.declared.Record.{Record}
 use Rattle.messages.specs.Step.{head, target, isFalling, isDelivered}
 use Rattle.messages.specs.Fresh.{sourceIn, targetIn, zeros, begunOf}
-use Rattle.messages.specs.Runs.{labelIn, Tabled, Listed, messagesIn, routeIn, itineraryIn}
+use Rattle.messages.specs.Runs.{Tabled, Listed, messagesIn, routeIn, itineraryIn}
 use Rattle.messages.specs.Tells.{keeps, Says}
 use Rattle.messages.proofs.Way.{OnWay, way-start}
 

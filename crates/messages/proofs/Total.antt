@@ -2,32 +2,22 @@
 use mathlib.Core.Path.{_≡_, sym, ap}
 use mathlib.Core.Bool.{Bool}
 use mathlib.Core.List.{List}
-use Prim.Native.Nat.{ℕ, zero, suc, _+_, _*_, _≤_, _<_}
-use native.Mathlib.Nat.{le-step, lt-suc-self, mul-suc}
+use Prim.Native.Nat.{ℕ, _+_, _*_, _≤_, _<_}
 use native.Mathlib.Omega.{arith}
 use lib.ListN.{length, getD}
 use Rattle.finite.specs.Sum.{sumTo}
-use Rattle.finite.proofs.Sum.{sum-none, sum-more, sum-cong}
+use Rattle.finite.proofs.Sum.{sum-cong, sum-within}
 use Rattle.lawful.specs.Path.{LawfulTo, Shortest}
 use Rattle.lawful.proofs.Routes.{climbing-route}
 use Rattle.lawful.proofs.Few.{few-on-route}
 use Rattle.nodes.specs.Limits.{maxNodes}
+use Rattle.lawful.specs.Turn.{labelIn}
 use Rattle.claims.specs.Claims.{Rising, whole}
 use Rattle.messages.specs.Sizes.{maxMessages}
 use Rattle.messages.specs.Fresh.{sourceIn, targetIn}
-use Rattle.messages.specs.Runs.{labelIn, Tabled, Listed, messagesIn, routeIn, itineraryIn, allMoves}
+use Rattle.messages.specs.Runs.{Tabled, Listed, messagesIn, routeIn, itineraryIn, allMoves}
 use Rattle.messages.proofs.Channels.{channels-length, channelRank, channels-low, channels-rise}
 use Rattle.messages.proofs.State.{few-messages, source-low, target-low}
-
--- a sum of n terms of at most b each
-pub sum-within : (n b : ℕ) (f : ℕ → ℕ) → ((v : ℕ) → v < n → f v ≤ b) → sumTo n f ≤ b * n
-sum-within zero b f h = let e = sum-none f in omega arith
-sum-within (suc n) b f h =
-    let i = sum-within n b f (λ v l. h v (le-step l)) in
-    let t = h n (lt-suc-self n) in
-    let e = sum-more n f in
-    let m = mul-suc b n in
-    omega arith
 
 module _ {n : ℕ} {edge : ℕ → ℕ → Bool} {labels free falling list : List ℕ} (tabled : Tabled n edge labels free falling) (listed : Listed n list) where
   module _ (m : ℕ) (low : m < messagesIn list) where
@@ -42,7 +32,7 @@ module _ {n : ℕ} {edge : ℕ → ℕ → Bool} {labels free falling list : Lis
     hops-few =
         few-on-route n edge (labelIn labels) (tabled .network) (tabled .climbing) (sourceIn list m) (targetIn list m) (source-low tabled listed m low) (target-low tabled listed m low)
 
-  -- "the sum of (shortest lawful hops + 1)", over any shortest lawful paths
+  -- RULES 2.3: "the sum, over all messages, of (shortest lawful hops + 1)", over any shortest lawful paths
   pub sum-of-shortest : (paths : ℕ → List ℕ)
       → ((m : ℕ) → m < messagesIn list → Shortest (LawfulTo edge (labelIn labels) (sourceIn list m) (targetIn list m)) (paths m))
       → allMoves n edge labels list ≡ sumTo (messagesIn list) (λ m. length (paths m) + 1)

@@ -7,13 +7,14 @@ use native.Mathlib.Omega.{arith}
 use Rattle.finite.specs.Truth.{_&_, non, below}
 use Rattle.finite.specs.Search.{Some}
 use Rattle.finite.proofs.Truth.{no-tf, bcase, both, eq-same, below-lt, below-le, lt-below}
+use Rattle.lawful.specs.Turn.{labelIn}
 use Rattle.claims.specs.Claims.{Progress, holds, wanted, CanStep, can-take, can-finish}
 use Rattle.claims.proofs.Waiting.{some-can-step}
 use Rattle.messages.specs.Sizes.{maxMessages}
 use Rattle.messages.specs.declared.Record.{Record}
 use Rattle.messages.specs.declared.Stepped.{Stepped}
 use Rattle.messages.specs.Step.{head, target, isDelivered, nextChannel, holder, stepOf}
-use Rattle.messages.specs.Runs.{labelIn, Tabled, Listed, messagesIn, itineraryIn, successful}
+use Rattle.messages.specs.Runs.{Tabled, Listed, messagesIn, itineraryIn, successful}
 use Rattle.messages.specs.Tells.{keeps}
 use Rattle.messages.proofs.Moves.{Case, unknown, already, arrives, waits, moves, step-case}
 use Rattle.messages.proofs.Channels.{channelRank}

@@ -1,32 +1,15 @@
 -- A message on its way: it stands at a node of its route, and the entries of its class lead along the rest of the route.
 use mathlib.Core.Path.{_≡_, refl, sym, _∙_, ap}
 use mathlib.Core.Bool.{Bool, true}
-use mathlib.Core.List.{List, [], _∷_}
+use mathlib.Core.List.{List, _∷_}
 use Prim.Native.Nat.{ℕ, zero, suc, _+_, _≤_, _<_, zero-le}
-use native.Mathlib.Nat.{le-of-lt, add-zero}
-use native.Mathlib.Numerals.{add-one}
+use native.Mathlib.Nat.{le-of-lt}
 use native.Mathlib.Omega.{arith}
-use lib.ListN.{length, getD, drop, length-drop}
-use lib.Seq.{getD-drop, drop-drop}
-use Rattle.lawful.specs.Entry.{entry, after, follow, routeOf}
+use lib.ListN.{length, getD, drop}
+use Rattle.finite.proofs.Slices.{drop-split, drop-end}
+use Rattle.lawful.specs.Entry.{entry, freeAfter, follow, routeOf}
 use Rattle.lawful.proofs.Run.{Hop, Run, hop-edge}
 use Rattle.lawful.proofs.Routes.{hopsOf, Nearer, hops-bound, entry-nearer, follow-here, follow-there}
-
--- what stands at and after place i of a list
-pub record Split (l : List ℕ) (i x : ℕ) (rest : List ℕ) : Type 0 where
-  pub low : i < length l
-  pub here : getD l i 0 ≡ x
-  pub on : drop (suc i) l ≡ rest
-
-pub drop-split : (l : List ℕ) (i x : ℕ) (rest : List ℕ) → drop i l ≡ x ∷ rest → Split l i x rest
-drop-split l i x rest e = record {
-  low = let a = length-drop i l in let b = ap length e in omega arith;
-  here = ap (λ (j : ℕ). getD l j 0) (sym (add-zero i)) ∙ sym (getD-drop i l 0 0) ∙ ap (λ (k : List ℕ). getD k 0 0) e;
-  on = ap (λ (j : ℕ). drop j l) (sym (add-one i)) ∙ sym (drop-drop 1 i l) ∙ ap (drop 1) e;
-}
-
-pub drop-end : (l : List ℕ) (i : ℕ) → drop i l ≡ [] → length l ≤ i
-drop-end l i e = let a = length-drop i l in let b = ap length e in omega arith
 
 -- a message to t, i hops along the route l from v, in this class and at this node
 pub record OnWay (n : ℕ) (edge : ℕ → ℕ → Bool) (label : ℕ → ℕ) (v t : ℕ) (l : List ℕ) (i : ℕ) (class : Bool) (node : ℕ) : Type 0 where
@@ -66,7 +49,7 @@ module _ {n : ℕ} {edge : ℕ → ℕ → Bool} {label : ℕ → ℕ} (inside :
     next = entry n edge label t class node
 
     abbrev class-then : Bool
-    class-then = after edge label class node next
+    class-then = freeAfter edge label class node next
 
     -- anywhere else the entry is the next node of the route, and the message is on its way from there
     module _ (d : node ≡ t → ⊥) where

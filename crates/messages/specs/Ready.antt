@@ -1,20 +1,31 @@
 -- Which messages can move, and whether all are delivered.
 use mathlib.Core.Bool.{Bool}
+use mathlib.Core.List.{List}
 use Prim.Native.Nat.{ℕ, min}
-use Rattle.finite.specs.Truth.{_&_, _or_, non, same}
+use lib.ListN.{getD}
+use Rattle.finite.specs.Truth.{_&_, _or_, same}
 use Rattle.finite.specs.Search.{all}
 use Rattle.messages.specs.Sizes.{maxMessages}
 use Rattle.messages.specs.declared.Record.{Record}
-use Rattle.messages.specs.Step.{head, target, isDelivered, nextChannel, holder}
+use Rattle.messages.specs.Step.{isDelivered, nextIn, channel}
 
 -- how many messages a record has; more than 256 count as 256
 abbrev pub messagesOf : Record → ℕ
 messagesOf r = min (r .messages) maxMessages
 
--- 01: "undelivered, unblocked": not delivered, and it has no hops to go or its next channel is free
-unfoldable pub ready : Record → ℕ → Bool
-ready r m = non (isDelivered r m) & (same (head r m) (target r m) or same (holder r (nextChannel r m)) 0)
+-- RULES 10.4: "neither delivered nor blocked": a message with this head, target, class and mark has no mark, and has no hops to go or its next channel is free
+unfoldable pub readyIn : ℕ → List ℕ → List ℕ → List ℕ → ℕ → ℕ → ℕ → ℕ → Bool
+readyIn nodes free falling holders head target class mark =
+    same mark 0 & (same head target or same (getD holders (channel head (nextIn nodes free falling head target class)) 0) 0)
 
--- "every message is delivered"
+-- message m, by arrays that tell its head, target, class and mark
+abbrev pub readyAt : ℕ → List ℕ → List ℕ → List ℕ → List ℕ → List ℕ → List ℕ → List ℕ → ℕ → Bool
+readyAt nodes free falling targets heads classes delivered holders m =
+    readyIn nodes free falling holders (getD heads m 0) (getD targets m 0) (getD classes m 0) (getD delivered m 0)
+
+unfoldable pub ready : Record → ℕ → Bool
+ready r m = readyAt (r .nodes) (r .free) (r .falling) (r .targets) (r .heads) (r .classes) (r .delivered) (r .holders) m
+
+-- RULES 10.4: "every message is delivered"
 unfoldable pub allDelivered : Record → Bool
 allDelivered r = all (messagesOf r) (isDelivered r)

@@ -6,17 +6,15 @@ use Prim.Native.Nat.{ℕ, _+_, _*_, _/_, _≤_, _<_}
 use lib.ListN.{length, getD}
 use Rattle.finite.specs.Sum.{sumTo, when}
 use Rattle.graph.specs.Network.{Network}
-use Rattle.lawful.specs.Turn.{Climbing}
+use Rattle.lawful.specs.Turn.{Climbing, labelIn}
 use Rattle.lawful.specs.Entry.{entry, routeOf}
 use Rattle.nodes.specs.Limits.{maxNodes}
 use Rattle.messages.specs.declared.Record.{Record}
 use Rattle.messages.specs.declared.Answer.{Answer}
 use Rattle.messages.specs.declared.Answer.the-variants.{Already, Moved, Blocked, Delivered, Refused}
+use Rattle.messages.specs.Sizes.{maxList}
 use Rattle.messages.specs.Step.{channel, stepOf}
 use Rattle.messages.specs.Fresh.{sourceIn, targetIn, begunOf}
-
-abbrev pub labelIn : List ℕ → ℕ → ℕ
-labelIn labels v = getD labels v 0
 
 -- a network of n nodes with a climbing labelling, and the two tables of its entries, row by row
 pub record Tabled (n : ℕ) (edge : ℕ → ℕ → Bool) (labels free falling : List ℕ) : Type 0 where
@@ -27,9 +25,9 @@ pub record Tabled (n : ℕ) (edge : ℕ → ℕ → Bool) (labels free falling :
   pub free-rows : (v t : ℕ) → v < n → t < n → getD free (v * n + t) 0 ≡ entry n edge (labelIn labels) t true v
   pub falling-rows : (v t : ℕ) → v < n → t < n → getD falling (v * n + t) 0 ≡ entry n edge (labelIn labels) t false v
 
--- 01: "a list of byte pairs (source, destination), 0 to 256 of them", each a node
+-- RULES 8.2: "a list of byte pairs (source, destination), 0 to 256 of them", each a node
 pub record Listed (n : ℕ) (list : List ℕ) : Type 0 where
-  pub short : length list ≤ 512
+  pub short : length list ≤ maxList
   pub nodes : (i : ℕ) → i < length list → getD list i 0 < n
 
 unfoldable pub messagesIn : List ℕ → ℕ
@@ -46,7 +44,7 @@ channelsOf v (u ∷ l) = channel v u ∷ channelsOf u l
 unfoldable pub itineraryIn : ℕ → (ℕ → ℕ → Bool) → List ℕ → List ℕ → ℕ → List ℕ
 itineraryIn n edge labels list m = channelsOf (sourceIn list m) (routeIn n edge labels list m)
 
--- "the sum of (shortest lawful hops + 1)"
+-- RULES 2.3: "the sum, over all messages, of (shortest lawful hops + 1)"
 unfoldable pub allMoves : ℕ → (ℕ → ℕ → Bool) → List ℕ → List ℕ → ℕ
 allMoves n edge labels list = sumTo (messagesIn list) (λ m. length (routeIn n edge labels list m) + 1)
 
@@ -55,7 +53,7 @@ pub data Reached (n : ℕ) (labels free falling list : List ℕ) : Record → Ty
   fresh : Reached n labels free falling list (begunOf n labels free falling list)
   move : {r : Record} (m : ℕ) → Reached n labels free falling list r → Reached n labels free falling list (stepOf r m .«record»)
 
--- "Moved and delivered count one successful move each"
+-- RULES 8.3: "Moved and delivered are one successful move each."
 abbrev pub successful : Answer → Bool
 successful Already = false
 successful Moved = true

@@ -2,9 +2,13 @@
 use Prim.Native.Nat.{ℕ, _*_, _-_, _^_}
 use Rattle.nodes.specs.Limits.{maxNodes}
 
--- 01: "0 to 256 of them"
+-- RULES 8.2: "0 to 256 of them"
 abbrev pub maxMessages : ℕ
 maxMessages = 256
+
+-- the bytes of so many pairs
+abbrev pub maxList : ℕ
+maxList = 2 * maxMessages
 
 -- a channel and an entry of a table belong to a pair of nodes
 abbrev pub maxPairs : ℕ

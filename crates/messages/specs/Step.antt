@@ -1,4 +1,4 @@
--- 01, "The drain machine": what one move answers and what it leaves. Reads past an array give 0 and stores there change nothing, so this says something
+-- RULES 8.3: what one move answers and what it leaves. Reads past an array give 0 and stores there change nothing, so this says something
 -- of every record.
 use mathlib.Core.Bool.{Bool, true, false}
 use mathlib.Core.List.{List}
@@ -14,7 +14,7 @@ use Rattle.messages.specs.declared.Answer.{Answer}
 use Rattle.messages.specs.declared.Answer.the-variants.{Already, Moved, Blocked, Delivered, Refused}
 use Rattle.messages.specs.declared.Stepped.{Stepped}
 
--- where message m is, where it is going, and whether it is falling
+-- where message m is, where it is going, whether it is falling, and whether it is delivered
 abbrev pub head : Record → ℕ → ℕ
 head r m = getD (r .heads) m 0
 
@@ -27,19 +27,19 @@ isFalling r m = non (same (getD (r .classes) m 0) 0)
 unfoldable pub isDelivered : Record → ℕ → Bool
 isDelivered r m = non (same (getD (r .delivered) m 0) 0)
 
--- where its entry stands in a table: row `head`, column `target`. More than 64 nodes count as 64.
-abbrev pub place : Record → ℕ → ℕ
-place r m = head r m * min (r .nodes) maxNodes + target r m
+-- where an entry stands in a table: row `head`, column `target`. More than 64 nodes count as 64.
+abbrev pub placeIn : ℕ → ℕ → ℕ → ℕ
+placeIn nodes head target = head * min nodes maxNodes + target
 
--- the table of its class
-unfoldable pub tableOf : Record → ℕ → List ℕ
-tableOf r m = elim (isFalling r m) [ true ↦ r .falling | false ↦ r .free ]
+-- the node after `head` on the way to `target`: the entry there in the table of the class
+unfoldable pub nextIn : ℕ → List ℕ → List ℕ → ℕ → ℕ → ℕ → ℕ
+nextIn nodes free falling head target class = getD (elim (non (same class 0)) [ true ↦ falling | false ↦ free ]) (placeIn nodes head target) 0
 
--- the node after its head: its entry there
+-- the node after a message's head
 unfoldable pub nextNode : Record → ℕ → ℕ
-nextNode r m = getD (tableOf r m) (place r m) 0
+nextNode r m = nextIn (r .nodes) (r .free) (r .falling) (head r m) (target r m) (getD (r .classes) m 0)
 
--- "Each link makes two channels, one a direction."
+-- RULES 8.1: "Each link makes two channels, one for each direction."
 abbrev pub channel : ℕ → ℕ → ℕ
 channel a b = maxNodes * a + b
 
@@ -50,14 +50,14 @@ nextChannel r m = channel (head r m) (nextNode r m)
 abbrev pub holder : Record → ℕ → ℕ
 holder r c = getD (r .holders) c 0
 
--- "A message starts free and becomes falling after its first fall.": its class after a hop, which is a fall or not
+-- RULES 5.1: "It starts free and becomes falling with its first fall.": its class after a hop, which is a fall or not
 unfoldable pub classIn : List ℕ → Bool → ℕ → ℕ → ℕ
 classIn labels falling head next = elim (falling or below (getD labels next 0) (getD labels head 0)) [ true ↦ 1 | false ↦ 0 ]
 
 abbrev pub classAfter : Record → ℕ → ℕ
 classAfter r m = classIn (r .labels) (isFalling r m) (head r m) (nextNode r m)
 
--- "Moved and delivered count one successful move each"; a count that is full stays full
+-- RULES 8.3: "Moved and delivered are one successful move each."; a count that is full stays full
 abbrev pub counted : ℕ → ℕ
 counted moves = min (moves + 1) maxCount
 
@@ -65,7 +65,7 @@ counted moves = min (moves + 1) maxCount
 unfoldable pub released : ℕ → ℕ → ℕ
 released holder h = elim (same h holder) [ true ↦ 0 | false ↦ h ]
 
--- "it takes that one channel"
+-- RULES 8.3: "it takes that one channel"
 unfoldable pub moved : Record → ℕ → Record
 moved r m = record {
   nodes = r .nodes;
@@ -81,7 +81,7 @@ moved r m = record {
   holders = set (r .holders) (nextChannel r m) (suc m);
 }
 
--- "it is delivered and gives back all its channels"
+-- RULES 8.3: "it is delivered and gives back all its channels"
 unfoldable pub arrived : Record → ℕ → Record
 arrived r m = record {
   nodes = r .nodes;
@@ -101,7 +101,7 @@ arrived r m = record {
 abbrev pub with : Record → Answer → Stepped
 with r answer = record { «record» = r; answer = answer }
 
--- 01: refusal 10, "Move: no such message", place 0
+-- refusal 10, RULES 9.1: "Move: no such message.", place 0
 abbrev pub refusedOf : Record → Stepped
 refusedOf r = with r (Refused (Unknown 0))
 

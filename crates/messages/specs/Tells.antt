@@ -14,7 +14,7 @@ use Rattle.messages.specs.Step.{head, isDelivered, nextChannel, holder}
 use Rattle.messages.specs.Fresh.{sourceIn}
 use Rattle.messages.specs.Runs.{messagesIn, routeIn, itineraryIn}
 
--- "gives back all its channels" when it is delivered: until then a message keeps every channel that it took
+-- RULES 8.3: "gives back all its channels" when it is delivered: until then a message keeps every channel that it took
 abbrev pub keeps : Keeps
 keeps m i j = true
 

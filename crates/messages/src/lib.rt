@@ -1,9 +1,13 @@
-// The messages of the drain machine: the record of them, and the answers to a move. No function: what a move is stands in specs/, demand 3 in proofs/.
+// The messages of the drain machine: the record of them, and the answers to a move. No function: what a move is stands in specs/, demand 3 (RULES 2.3) in
+// proofs/.
 use nodes::MAX_NODES;
 use refusal::Refusal;
 
-// 01: "0 to 256" messages.
+// RULES 8.2: "0 to 256 of them"
 pub const MAX_MESSAGES: usize = 256;
+
+// The bytes of so many pairs.
+pub const MAX_LIST: usize = 2 * MAX_MESSAGES;
 
 // A channel and an entry of a table belong to a pair of nodes.
 pub const MAX_PAIRS: usize = MAX_NODES * MAX_NODES;

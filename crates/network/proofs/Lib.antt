@@ -2,3 +2,4 @@ pub mod Table
 pub mod Visit
 pub mod Links
 pub mod Meaning
+pub mod Determined

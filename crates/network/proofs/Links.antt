@@ -15,7 +15,7 @@ use Rattle.finite.proofs.Search.{any-more}
 use Rattle.finite.proofs.Lists.{getD-zeros}
 use Rattle.finite.proofs.Sets.{has-0, has-setOf, setOf-lt}
 use Rattle.nodes.specs.Limits.{maxNodes}
-use Rattle.network.specs.Table.{joins, linkedBy, linked, edgeOf, tableFrom}
+use Rattle.network.specs.Table.{joins, linkedBy, linked, neighboursOf, edgeOf, tableFrom}
 use Rattle.network.proofs.Table.{Words, table-ext}
 
 -- what `joins` says, and how it is made
@@ -50,7 +50,7 @@ link-none t a b h x y k l = sym (ap (λ (j : Bool). j or edgeOf t x y) (refute _
 
 -- one pair more
 module _ (t : List ℕ) (a b : ℕ) {v w : ℕ} (size : length t ≡ maxNodes) (d : a ≡ b → ⊥) (la : a < maxNodes) (lb : b < maxNodes)
-    (ev : v ≡ setOf maxNodes (λ u. has (getD t a 0) u or same b u)) (ew : w ≡ setOf maxNodes (λ u. has (getD (set t a v) b 0) u or same a u)) where
+    (ev : v ≡ setOf maxNodes (λ u. has (neighboursOf t a) u or same b u)) (ew : w ≡ setOf maxNodes (λ u. has (neighboursOf (set t a v) b) u or same a u)) where
   at-a : getD (set (set t a v) b w) a 0 ≡ v
   at-a = getD-set-other (set t a v) b a w 0 d ∙ getD-set-same t a v 0 (rw size la)
 

@@ -1,10 +1,10 @@
--- What the functions' answers mean in 01's words: the links of a list of pairs make a network, a table of what remains holds the remaining graph, and
+-- What the functions' answers mean, by RULES 3: the links of a list of pairs make a network, a table of what remains holds the remaining graph, and
 -- on it `strike`, `degree`, `joined` and `splits` speak of that graph; for a table made from pairs they say what walks say.
 use mathlib.Core.Path.{_≡_, sym, _∙_, ap, fun-ext}
 use mathlib.Core.Bool.{Bool, true}
 use mathlib.Core.List.{List}
 use mathlib.Core.Logic.{_↔_}
-use Prim.Native.Nat.{ℕ, _^_, _<_}
+use Prim.Native.Nat.{ℕ, _<_}
 use Rattle.finite.specs.Truth.{below}
 use Rattle.finite.specs.Sum.{count}
 use Rattle.finite.specs.Sets.{has, setOf, without}
@@ -93,9 +93,9 @@ module _ (R : ℕ → Bool) (edge : ℕ → ℕ → Bool) (m : Members maxNodes 
 
 module _ (pairs : List ℕ) where
   -- the flood answers exactly the nodes that walks lead to
-  pub flood-means : (start v : ℕ) → start < 2 ^ maxNodes
+  pub flood-means : (start v : ℕ)
       → (has (reach maxNodes (edgeOf (tableOf pairs)) (has start)) v ≡ true) ↔ From maxNodes (edgeOf (tableOf pairs)) (has start) v
-  flood-means start v l = (
+  flood-means start v = (
     reach-from maxNodes _ (has start) v,
     λ f. reach-walk maxNodes _ (pairs-network pairs .inside) (has start) (f .low) (f .fact) (f .walk),
   )

@@ -7,17 +7,16 @@ use native.Mathlib.Omega.{arith}
 use lib.Dec.{lit<}
 use lib.ListN.{length, getD, set, length-set}
 use lib.Seq.{getD-set-same, getD-set-other}
-use Rattle.finite.specs.Truth.{_&_, non, same}
+use Rattle.finite.specs.Truth.{_&_, non, same, below}
 use Rattle.finite.specs.Sets.{has, setOf, without}
 use Rattle.finite.specs.Lists.{tabulate}
-use Rattle.finite.proofs.Truth.{no-tf, bcase, iff, refute, both, and-l, and-r, and-true, non-true, true-non, same-refl, same-eq, same-ne, ne-same}
+use Rattle.finite.proofs.Truth.{no-tf, bcase, iff, refute, both, and-l, and-r, and-true, non-true, true-non, same-refl, same-eq, same-ne, ne-same, lt-below}
 use Rattle.finite.proofs.Sets.{has-lt, has-0, has-setOf, setOf-cong, set-ext}
 use Rattle.finite.proofs.Lists.{tabulate-length, tabulate-at, tabulate-cong, tabulate-ext}
 use Rattle.finite.proofs.Filling.{Filling}
 use Rattle.graph.specs.Network.{among, avoid}
 use Rattle.nodes.specs.Limits.{maxNodes}
-use Rattle.nodes.proofs.Words.{all-has}
-use Rattle.network.specs.Table.{edgeOf, tableFrom, struckOut}
+use Rattle.network.specs.Table.{neighboursOf, edgeOf, tableFrom, struckOut}
 
 -- each row of the table is a word
 abbrev pub Words : List ℕ → Type 0
@@ -72,15 +71,16 @@ unfolding struckOut tableFrom
 struck-table v t e = ap (λ (n : ℕ). tabulate n (λ a. setOf maxNodes (avoid v (edgeOf t) a))) e
 
 -- the word of all nodes but v
-others : (v : ℕ) {w : ℕ} → w ≡ setOf maxNodes (without (has (2 ^ maxNodes - 1)) v) → (u : ℕ) → u < maxNodes → has w u ≡ non (same v u)
+others : (v : ℕ) {all w : ℕ} → all ≡ setOf maxNodes (λ u. below u maxNodes) → w ≡ setOf maxNodes (without (has all) v)
+    → (u : ℕ) → u < maxNodes → has w u ≡ non (same v u)
 unfolding without
-others v e u l =
+others v a e u l =
     ap (λ (x : ℕ). has x u) e ∙ has-setOf maxNodes _ u l
-    ∙ ap (λ (b : Bool). b & non (same v u)) (all-has maxNodes u l) ∙ and-true (non (same v u))
+    ∙ ap (λ (b : Bool). b & non (same v u)) (ap (λ (x : ℕ). has x u) a ∙ has-setOf maxNodes _ u l ∙ lt-below l) ∙ and-true (non (same v u))
 
 -- the row of a, where only the nodes of w are kept
 abbrev pub masked : List ℕ → ℕ → ℕ → ℕ
-masked t w a = setOf maxNodes (λ b. has (getD t a 0) b & has w b)
+masked t w a = setOf maxNodes (λ b. has (neighboursOf t a) b & has w b)
 
 -- the struck node's own row is empty
 own-row : (t : List ℕ) (v : ℕ) → 0 ≡ setOf maxNodes (avoid v (edgeOf t) v)
@@ -88,21 +88,22 @@ unfolding avoid among
 own-row t v = set-ext maxNodes 0 _ (lit< tt) (λ b k. has-0 b ∙ sym (refute _ (λ h. no-tf (same-refl v) (non-true _ (and-l _ _ h)))))
 
 -- every row has lost v; then its own is emptied, where there is one
-module _ {t new : List ℕ} {v w u : ℕ} (e : w ≡ setOf maxNodes (without (has (2 ^ maxNodes - 1)) v)) (s : Filling (masked t w) t new u) (l : length t ≤ u) where
-  other-row : (a : ℕ) → (v ≡ a → ⊥) → masked t w a ≡ setOf maxNodes (avoid v (edgeOf t) a)
+module _ {t new : List ℕ} {v all w u : ℕ} (a : all ≡ setOf maxNodes (λ x. below x maxNodes)) (e : w ≡ setOf maxNodes (without (has all) v))
+    (s : Filling (masked t w) t new u) (l : length t ≤ u) where
+  other-row : (x : ℕ) → (v ≡ x → ⊥) → masked t w x ≡ setOf maxNodes (avoid v (edgeOf t) x)
   unfolding avoid among edgeOf
-  other-row a d =
+  other-row x d =
       setOf-cong maxNodes _ _ (λ b k.
-      iff _ _ (λ h. both (true-non (ne-same d)) (both (sym (others v e b k) ∙ and-r _ _ h) (and-l _ _ h)))
-      (λ h. both (and-r _ _ (and-r _ _ h)) (others v e b k ∙ and-l _ _ (and-r _ _ h))))
+      iff _ _ (λ h. both (true-non (ne-same d)) (both (sym (others v a e b k) ∙ and-r _ _ h) (and-l _ _ h)))
+      (λ h. both (and-r _ _ (and-r _ _ h)) (others v a e b k ∙ and-l _ _ (and-r _ _ h))))
 
   pub struck : v < length t → set new v 0 ≡ struckOut v t
   unfolding struckOut
   struck k =
-      tabulate-ext (length t) _ 0 (set new v 0) (length-set new v 0 ∙ s .size) (λ a h.
-      bcase (same v a) (λ q. rw (← same-eq v a q) (getD-set-same new v 0 0 (rw (s .size) k) ∙ own-row t v))
-      (λ q. let d = same-ne v a q in getD-set-other new v a 0 0 (λ p. d (sym p)) ∙ s .passed a (omega arith) ∙ other-row a d))
+      tabulate-ext (length t) _ 0 (set new v 0) (length-set new v 0 ∙ s .size) (λ x h.
+      bcase (same v x) (λ q. rw (← same-eq v x q) (getD-set-same new v 0 0 (rw (s .size) k) ∙ own-row t v))
+      (λ q. let d = same-ne v x q in getD-set-other new v x 0 0 (λ p. d (sym p)) ∙ s .passed x (omega arith) ∙ other-row x d))
 
   pub struck-none : length t ≤ v → new ≡ struckOut v t
   unfolding struckOut
-  struck-none k = tabulate-ext (length t) _ 0 new (s .size) (λ a h. s .passed a (omega arith) ∙ other-row a (λ p. omega arith))
+  struck-none k = tabulate-ext (length t) _ 0 new (s .size) (λ x h. s .passed x (omega arith) ∙ other-row x (λ p. omega arith))

@@ -1,9 +1,8 @@
--- One turn of the flood over words is one visit of the flood over sets.
+-- One turn of the flood over the code's sets is one visit of the flood over sets.
 use mathlib.Core.Path.{_≡_, _∙_, ap}
 use mathlib.Core.Bool.{Bool}
 use mathlib.Core.List.{List}
 use Prim.Native.Nat.{ℕ, _^_, _<_}
-use lib.ListN.{getD}
 use Rattle.finite.specs.Truth.{_&_, _or_, non}
 use Rattle.finite.specs.Search.{least}
 use Rattle.finite.specs.Sets.{has, setOf, without}
@@ -11,10 +10,10 @@ use Rattle.finite.proofs.Sets.{has-setOf}
 use Rattle.graph.proofs.Flood.{Visit}
 use Rattle.nodes.specs.Limits.{maxNodes}
 use Rattle.nodes.proofs.Words.{lowest-lt, lowest-in}
-use Rattle.network.specs.Table.{edgeOf}
+use Rattle.network.specs.Table.{neighboursOf, edgeOf}
 
 pub visit : (t : List ℕ) (seen front : ℕ) {v row found seen′ rest front′ : ℕ} → front < 2 ^ maxNodes → (front ≡ 0 → ⊥)
-    → v ≡ least maxNodes (has front) → row ≡ getD t v 0 → found ≡ setOf maxNodes (λ u. has row u & non (has seen u))
+    → v ≡ least maxNodes (has front) → row ≡ neighboursOf t v → found ≡ setOf maxNodes (λ u. has row u & non (has seen u))
     → seen′ ≡ setOf maxNodes (λ u. has seen u or has found u) → rest ≡ setOf maxNodes (without (has front) v)
     → front′ ≡ setOf maxNodes (λ u. has rest u or has found u) → Visit maxNodes (edgeOf t) (has seen) (has front) v (has seen′) (has front′)
 unfolding edgeOf

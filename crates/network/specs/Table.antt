@@ -22,9 +22,13 @@ linkedBy k pairs a b = any k (λ i. joins (getD pairs (2 * i) 0) (getD pairs (2 
 unfoldable pub linked : List ℕ → ℕ → ℕ → Bool
 linked pairs = linkedBy (length pairs / 2) pairs
 
--- the links of a table: b is in the neighbour word of a
+-- the neighbours of a as a set: row a of the table, and none past its end
+abbrev pub neighboursOf : List ℕ → ℕ → ℕ
+neighboursOf t a = getD t a 0
+
+-- the links of a table: b is a neighbour of a
 unfoldable pub edgeOf : List ℕ → ℕ → ℕ → Bool
-edgeOf t a b = has (getD t a 0) b
+edgeOf t a b = has (neighboursOf t a) b
 
 -- the table of the links between the first 64 numbers
 unfoldable pub tableFrom : (ℕ → ℕ → Bool) → List ℕ

@@ -1,2 +1,4 @@
 pub mod Words
+pub mod Members
 pub mod Passing
+pub mod Determined

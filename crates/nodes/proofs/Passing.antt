@@ -1,13 +1,15 @@
--- A loop over the members of a word passes the lowest one: it was left, it is left no more, and every other is as it was.
+-- A loop over the members of a set passes the lowest one: it was left, it is left no more, and every other is as it was.
 use mathlib.Core.Path.{_≡_, refl, sym, _∙_, ap}
-use mathlib.Core.Bool.{true, false}
+use mathlib.Core.Bool.{Bool, true, false, not}
 use Prim.Native.Nat.{ℕ, _^_, _<_}
+use lib.Dec.{eqb}
 use Rattle.finite.specs.Search.{least}
 use Rattle.finite.specs.Sets.{has, setOf, without}
 use Rattle.finite.proofs.Truth.{iff, refute}
 use Rattle.finite.proofs.Sets.{has-lt, without-in, without-ne, in-without}
 use Rattle.nodes.specs.Limits.{maxNodes}
 use Rattle.nodes.proofs.Words.{has-all, lowest-in, next-less, rest-at, word-lt}
+use Rattle.nodes.proofs.Members.{some-left}
 
 pub record Pass (left v next : ℕ) : Type 0 where
   pub here : has left v ≡ true
@@ -18,9 +20,10 @@ pub record Pass (left v next : ℕ) : Type 0 where
   pub word : next < 2 ^ maxNodes
   pub less : next < left
 
-pub pass : {left v next : ℕ} → left < 2 ^ maxNodes → (left ≡ 0 → ⊥) → v ≡ least maxNodes (has left)
+-- from what `is_empty`, `lowest` and `rest` answer, in a loop that goes on while something is left
+pub pass : {left v next : ℕ} {r : Bool} → left < 2 ^ maxNodes → r ≡ eqb left 0 → not r ≡ true → v ≡ least maxNodes (has left)
     → next ≡ setOf maxNodes (without (has left) (least maxNodes (has left))) → Pass left v next
-pass {left} {v} {next} l some lowest rest = record {
+pass {left} {v} {next} l test on lowest rest = record {
   here = here;
   node = has-lt maxNodes left v l here;
   gone = at v ∙ refute _ (λ t. without-ne (has left) v v t refl);
@@ -30,6 +33,9 @@ pass {left} {v} {next} l some lowest rest = record {
   less = next-less maxNodes l some lowest less;
 }
   where
+    some : left ≡ 0 → ⊥
+    some = some-left test on
+
     less : next ≡ setOf maxNodes (without (has left) v)
     less = rest-at maxNodes left lowest rest
 

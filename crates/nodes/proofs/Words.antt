@@ -138,9 +138,6 @@ all-word n p h =
     let s = setOf-cong n (λ v. non (has 0 v)) p (λ v l. true-non (has-0 v) ∙ sym (h v l)) in
     omega arith
 
-pub all-has : (n v : ℕ) → v < n → has (2 ^ n - 1) v ≡ true
-all-has n v l = ap (λ (w : ℕ). has w v) (all-word n (λ u. true) (λ u k. refl)) ∙ has-setOf n (λ u. true) v l
-
 -- `(1 << k) - 1` is the set of the first k
 pub first-word : (n k : ℕ) → k < n → 1 * 2 ^ k % 2 ^ n - 1 ≡ setOf n (λ v. below v k)
 first-word n k l =

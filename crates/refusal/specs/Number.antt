@@ -1,4 +1,4 @@
--- 01, "Refusal numbers": the number and the place of each refusal.
+-- RULES 9.1: the number and the place of each refusal.
 use Prim.Native.Nat.{ℕ}
 use Rattle.refusal.specs.declared.Refusal.{Refusal}
 use Rattle.refusal.specs.declared.Refusal.the-variants.{Contents, Count, Shape, Ends, Order, Crowded, Apart, Differs, Short, Unknown, Messages}

@@ -1,4 +1,4 @@
-// The refusals of every call: a case for each fault, with 01's number and place.
+// The refusals of every call: a case for each fault, with its number and place in RULES 9.1.
 ghost use mathlib.Core.Path.{_≡_};
 ghost use Rattle.refusal.specs.Number.{numberOf, placeOf};
 

@@ -7,9 +7,8 @@ use Rattle.finite.proofs.Lists.{padded-at}
 use Rattle.nodes.specs.Limits.{maxNodes}
 use Rattle.cabling.specs.Cabling.{Cabling, Good, links}
 use Rattle.cabling.proofs.Joined.{good-network}
-use Rattle.rule.specs.Labels.{labelIn}
-use Rattle.lawful.specs.Turn.{rises}
-use Rattle.lawful.specs.Entry.{entry, after, routeOf}
+use Rattle.lawful.specs.Turn.{rises, labelIn}
+use Rattle.lawful.specs.Entry.{entry, freeAfter, routeOf}
 use Rattle.lawful.proofs.Run.{Run, hop-edge}
 use Rattle.lawful.proofs.Climb.{climbing-run}
 use Rattle.lawful.proofs.Routes.{entry-nearer, follow-agree}
@@ -27,8 +26,8 @@ module _ {c : Cabling} (g : Good c) where
   stored-entry t false v k l = padded-at tableSize (rowsFor c false) _ ∙ good-row-at g false v t k l
 
   -- between neighbours the labels decide
-  after-neighbour : (class : Bool) (v u : ℕ) → links c v u ≡ true → after (links c) (labelFor c) class v u ≡ after anywhere (labelIn (fabricOf c .labels)) class v u
-  unfolding after rises fabricOf
+  after-neighbour : (class : Bool) (v u : ℕ) → links c v u ≡ true → freeAfter (links c) (labelFor c) class v u ≡ freeAfter anywhere (labelIn (fabricOf c .labels)) class v u
+  unfolding freeAfter rises fabricOf
   after-neighbour class v u e = rw (e, padded-at maxNodes (labelsFor c) v, padded-at maxNodes (labelsFor c) u)
 
   pub follows : (s t : ℕ) → s < c .nodes → t < c .nodes → followed (fabricOf c) s t ≡ s ∷ routeFor c s t

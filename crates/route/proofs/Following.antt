@@ -9,9 +9,8 @@ use native.Mathlib.Omega.{arith}
 use lib.ListN.{length, getD, length-append}
 use Rattle.finite.specs.Truth.{below}
 use Rattle.finite.proofs.Truth.{and-true, and-false}
-use Rattle.rule.specs.Labels.{labelIn}
-use Rattle.lawful.specs.Turn.{rises}
-use Rattle.lawful.specs.Entry.{after, follow}
+use Rattle.lawful.specs.Turn.{rises, labelIn}
+use Rattle.lawful.specs.Entry.{freeAfter, follow}
 use Rattle.lawful.proofs.Routes.{follow-here, follow-there}
 use Rattle.fabric.specs.declared.Fabric.{Fabric}
 use Rattle.laid.specs.Laid.{Page, page, behind}
@@ -25,11 +24,11 @@ use Rattle.route.specs.Follow.{stored, anywhere, hopOf, followed}
 module _ (f : Fabric) (t : ℕ) (p : Place) {u : ℕ} where
   pub hop-free : {a b : ℕ} → p .free ≡ true → u ≡ getD (f .free) (p .node * f .nodes + t) 0 → a ≡ labelIn (f .labels) (p .node) → b ≡ labelIn (f .labels) u
       → record { node = u; free = below a b } ≡ hopOf f t p
-  unfolding hopOf stored after rises
+  unfolding hopOf stored freeAfter rises
   hop-free e eu ea eb = simp (ea, eb, eu, e, and-true)
 
   pub hop-falling : p .free ≡ false → u ≡ getD (f .falling) (p .node * f .nodes + t) 0 → record { node = u; free = false } ≡ hopOf f t p
-  unfolding hopOf stored after
+  unfolding hopOf stored freeAfter
   hop-falling e eu = simp (eu, e, and-false)
 
 -- ---- hop by hop

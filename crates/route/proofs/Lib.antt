@@ -2,4 +2,4 @@ pub mod Following
 pub mod Cabled
 pub mod Cases
 pub mod Meaning
-pub mod Tight
+pub mod Determined

@@ -1,4 +1,4 @@
--- What route writes in 01's words: "hops + 1 node numbers, source first", the nodes of a shortest lawful path. N bytes, and so 64, are room enough; 9 comes last.
+-- What route writes, RULES 7.6: "hops + 1 node numbers, source first", the nodes of a shortest lawful path. N bytes, and so 64, are room enough; 9 comes last.
 use mathlib.Core.Path.{_≡_, _∙_, ap}
 use mathlib.Core.List.{List, [], _∷_}
 use mathlib.Core.Logic.{_↔_}
@@ -13,10 +13,10 @@ use Rattle.lawful.specs.Path.{LawfulTo, Shortest}
 use Rattle.fabric.specs.Fabric.{labelFor}
 use Rattle.fabric.proofs.Routes as routes
 use Rattle.format.specs.Contents.{nodesIn}
-use Rattle.written.specs.declared.Written.{Written}
-use Rattle.written.specs.declared.Written.the-variants.{Bytes, NotWritten}
-use Rattle.written.specs.Written.{placed, writtenOf, writtenInto, Writes}
-use Rattle.written.proofs.Meaning.{short-means}
+use Rattle.results.specs.declared.Written.{Written}
+use Rattle.results.specs.declared.Written.the-variants.{Bytes, NotWritten}
+use Rattle.results.specs.Written.{placed, writtenOf, writtenInto, Writes}
+use Rattle.results.proofs.Meaning.{short-means}
 use Rattle.image.specs.Image.{cablingIn}
 use Rattle.image.specs.Calls.{imageFault}
 use Rattle.image.proofs.Images.{accepted-good}
@@ -39,11 +39,11 @@ route-writes b s t {before} e k l room w =
       w .leaves ∙ rw (fine, le-leb _ _ fits, writtenInto),
     )
 
--- 9, "result longer than the buffer", exactly where nothing else is refused and the route finds no room
+-- 9, RULES 9.1: "the result is longer than the buffer", exactly where nothing else is refused and the route finds no room
 pub route-short : (b : List ℕ) (s t room : ℕ)
     → (writtenOf (routeFault b s t) (routeBytes b s t) room ≡ NotWritten Short) ↔ ((routeFault b s t ≡ Fine) × (room < length (routeBytes b s t)))
 route-short b s t room = short-means _ room (routeFault b s t) (route-not-short b s t)
 
--- "from a node to itself that is 0 hops"
+-- RULES 5.4: "from a node to itself that is 0 hops"
 pub route-home : (b : List ℕ) (s : ℕ) → routeBytes b s s ≡ s ∷ []
 route-home b s = ap (λ (l : List ℕ). s ∷ l) (routes.route-home (cablingIn b) s)

@@ -3,8 +3,8 @@ use mathlib.Core.Bool.{Bool, true, false}
 use mathlib.Core.List.{List, _∷_}
 use Prim.Native.Nat.{ℕ, _+_, _*_}
 use lib.ListN.{getD}
-use Rattle.rule.specs.Labels.{labelIn}
-use Rattle.lawful.specs.Entry.{after, follow}
+use Rattle.lawful.specs.Entry.{freeAfter, follow}
+use Rattle.lawful.specs.Turn.{labelIn}
 use Rattle.fabric.specs.declared.Fabric.{Fabric}
 use Rattle.route.specs.declared.Place.{Place}
 
@@ -19,7 +19,7 @@ anywhere a b = true
 -- one hop
 unfoldable pub hopOf : Fabric → ℕ → Place → Place
 hopOf f t p =
-    let u : ℕ = stored f t (p .free) (p .node) in record { node = u; free = after anywhere (labelIn (f .labels)) (p .free) (p .node) u }
+    let u : ℕ = stored f t (p .free) (p .node) in record { node = u; free = freeAfter anywhere (labelIn (f .labels)) (p .free) (p .node) u }
 
 -- the source, and the nodes that the entries lead over: `routeOf` with what is stored in place of the entry
 unfoldable pub followed : Fabric → ℕ → ℕ → List ℕ

@@ -11,14 +11,14 @@ use Rattle.format.specs.Contents.{nodesIn}
 use Rattle.image.specs.Image.{cablingIn}
 use Rattle.image.specs.Calls.{andThen, imageFault}
 
--- 10: "Route: a node ≥ N", at place 0
+-- 10, RULES 9.1: "Route: a node ≥ N.", at place 0
 unfoldable pub endsFault : List ℕ → ℕ → ℕ → Verdict
 endsFault b s t = elim (below s (nodesIn b) & below t (nodesIn b)) [ true ↦ Fine | false ↦ Fault (Unknown 0) ]
 
--- the route call "takes either image, a source and a destination"
+-- RULES 7.6: "Route takes either image, a source and a destination"
 abbrev pub routeFault : List ℕ → ℕ → ℕ → Verdict
 routeFault b s t = andThen (imageFault b) (endsFault b s t)
 
--- and "writes hops + 1 node numbers, source first"
+-- RULES 7.6: "and writes hops + 1 node numbers, source first"
 abbrev pub routeBytes : List ℕ → ℕ → ℕ → List ℕ
 routeBytes b s t = s ∷ routeFor (cablingIn b) s t

@@ -5,14 +5,14 @@ ghost use lib.ListN.{length};
 ghost use Rattle.nodes.specs.Limits.{maxNodes};
 ghost use Rattle.laid.specs.Laid.{page};
 ghost use Rattle.laid.specs.Lays.{Lays};
-ghost use Rattle.written.specs.Written.{Writes};
+ghost use Rattle.results.specs.Written.{Writes};
 ghost use Rattle.route.specs.Follow.{hopOf, followed};
 ghost use Rattle.route.specs.Route.{routeFault, routeBytes};
 use fabric::Fabric;
 use nodes::MAX_NODES;
 use refusal::Refusal;
 use refusal::Verdict;
-use written::Written;
+use results::Written;
 
 // A route is followed for 2 N hops at the most, and has one node more than hops.
 const ROOM: usize = 2 * MAX_NODES + 1;
@@ -31,14 +31,14 @@ fn hop(labels: &[u8], free: &[u8], falling: &[u8], n: usize, t: u8, p: Place) ->
     let v = p.node as usize;
     let at = v * n + (t as usize);
     if p.free {
-        let u = network::byte_at(free, at);
+        let u = slices::byte_at(free, at);
         return Place {
             node: u as u8,
-            free: network::byte_at(labels, v) < network::byte_at(labels, u),
+            free: slices::byte_at(labels, v) < slices::byte_at(labels, u),
         };
     }
     Place {
-        node: network::byte_at(falling, at) as u8,
+        node: slices::byte_at(falling, at) as u8,
         free: false,
     }
 }
@@ -86,5 +86,5 @@ pub fn route(image: &[u8], source: usize, destination: usize, buffer: &mut [u8])
     }
     let mut nodes = [0u8; ROOM];
     let len = followed(f, source as u8, destination as u8, &mut nodes);
-    written::place(&nodes[..len], buffer)
+    results::place(&nodes[..len], buffer)
 }

@@ -1,36 +1,20 @@
 -- A square table in one list: cell v * m + t stands in row v and column t. A column is placed cell by cell, and the columns together make the table.
-use mathlib.Core.Path.{_≡_, refl, sym, _∙_, ap, ap₂}
+use mathlib.Core.Path.{_≡_, refl, sym, _∙_}
 use mathlib.Core.Bool.{Bool, true, false}
 use mathlib.Core.List.{List}
-use Prim.Native.Nat.{ℕ, zero, suc, _+_, _*_, _/_, _%_, _≤_, _<_, zero-le}
-use native.Mathlib.Nat.{le-refl, not-suc-le-zero, mul-add-div-right, mul-add-mod-self-right, mod-eq-of-lt, mod-lt, div-eq-of-lt, div-add-mod', div-lt-iff-lt-mul, mul-le-mul, add-zero}
+use Prim.Native.Nat.{ℕ, _+_, _*_, _/_, _%_, _≤_, _<_, zero-le}
+use native.Mathlib.Nat.{mul-le-mul}
 use native.Mathlib.Omega.{arith}
 use lib.ListN.{length, getD, set, replicate, length-set, length-replicate}
 use lib.Seq.{getD-set-same, getD-set-other}
 use Rattle.finite.specs.Truth.{_&_, same, below}
 use Rattle.finite.specs.Lists.{tabulate, padded}
-use Rattle.finite.proofs.Truth.{bcase, iff, both, and-l, and-r, and-true, and-false, true-and, false-and, same-eq, same-ne, same-refl, below-lt, below-le, lt-below, le-below}
+use Rattle.finite.proofs.Truth.{bcase, and-true, and-false, true-and, false-and, same-eq, same-ne, same-refl, below-lt, below-le, lt-below, le-below, below-next}
 use Rattle.finite.proofs.Lists.{getD-zeros, tabulate-length, tabulate-at, tabulate-out, tabulate-ext, padded-ext}
+use Rattle.finite.proofs.Grid.{cell-row, cell-column, cell-lt, cell-is, cell-inside}
 use Rattle.nodes.specs.Limits.{maxNodes}
 use Rattle.rows.specs.Tables.{tableSize}
 use Rattle.rows.specs.Steps.{pick, placedOf}
-
--- ---- where a cell stands
-
-module _ (m d : ℕ) (low : d < m) where
-  pub cell-row : (v : ℕ) → (v * m + d) / m ≡ v
-  cell-row v = mul-add-div-right (omega arith) v d ∙ ap (λ (x : ℕ). v + x) (div-eq-of-lt low) ∙ add-zero v
-
-  pub cell-column : (v : ℕ) → (v * m + d) % m ≡ d
-  cell-column v = mul-add-mod-self-right v m d ∙ mod-eq-of-lt low
-
-  -- a cell of the table is one of its m * m cells
-  pub cell-lt : (v : ℕ) → v < m → v * m + d < m * m
-  cell-lt v l = let b : suc v * m ≤ m * m = mul-le-mul l (le-refl m) in omega arith
-
--- a cell is given by its row and its column
-pub cell-is : (m i v d : ℕ) → i / m ≡ v → i % m ≡ d → i ≡ v * m + d
-cell-is m i v d p q = sym (div-add-mod' i m) ∙ ap₂ (λ (x y : ℕ). x * m + y) p q
 
 -- no more than 64 rows fill no more than the whole table
 pub square-le : (m : ℕ) → m ≤ maxNodes → m * m ≤ tableSize
@@ -39,15 +23,6 @@ square-le m l = mul-le-mul l l
 -- every cell of such a table fits
 pub cell-fits : (m d v : ℕ) → m ≤ maxNodes → d < m → v < m → v * m + d < tableSize
 cell-fits m d v few low l = let a = cell-lt m d low v l in let b = square-le m few in omega arith
-
-square-pos : (m i : ℕ) → i < m * m → 0 < m
-square-pos zero i l = absurd (not-suc-le-zero l)
-square-pos (suc m) i l = omega arith
-
--- one number more
-pub below-next : (a v : ℕ) → (a ≡ v → ⊥) → below a v ≡ below a (v + 1)
-below-next a v d =
-    iff _ _ (λ t. let l = below-lt _ _ t in lt-below (omega arith)) (λ t. let l = below-lt _ _ t in lt-below (omega arith))
 
 -- ---- one column
 
@@ -119,19 +94,6 @@ module _ (m : ℕ) (f : ℕ → ℕ → ℕ) where
         (λ t b. let k = below-lt _ _ b in rw (e, tabulate-at maxNodes (λ v. f v d) (i / m) 0 (omega arith), ← same-eq _ _ t)));
   }
 
-  -- the cells of a table of m rows and m columns
-  inside : (i : ℕ) → below (i % m) m & below (i / m) m ≡ below i (m * m)
-  inside i =
-      iff _ _
-      (λ t.
-      let a = below-lt _ _ (and-l _ _ t) in
-      let b = below-lt _ _ (and-r _ _ t) in
-      lt-below (div-lt-iff-lt-mul {k = m} {x = i} {y = m} (omega arith) .0 b))
-      (λ t.
-      let l = below-lt _ _ t in
-      let pos = square-pos m i l in
-      both (lt-below (mod-lt i pos)) (lt-below (div-lt-iff-lt-mul {k = m} {x = i} {y = m} pos .1 l)))
-
   pub columns-all : {table : List ℕ} {d : ℕ} → Columns table d → m ≤ maxNodes → d ≡ m → table ≡ padded tableSize (tabulate (m * m) (λ i. f (i / m) (i % m)))
   columns-all {table} h few e =
       let g : ℕ → ℕ = λ i. f (i / m) (i % m) in
@@ -139,5 +101,5 @@ module _ (m : ℕ) (f : ℕ → ℕ → ℕ) where
       let most = square-le m few in
       padded-ext tableSize (tabulate (m * m) g) table (omega arith) (h .size)
       (λ i l.
-      h .cells i l ∙ rw (e, inside i)
+      h .cells i l ∙ rw (e, cell-inside m i)
       (bcase (below i (m * m)) (λ t. rw t (sym (tabulate-at (m * m) g i 0 (below-lt _ _ t)))) (λ t. rw t (sym (tabulate-out (m * m) g i 0 (below-le _ _ t))))))

@@ -1,4 +1,4 @@
--- The words turned round: node by node each enters the words of those that it has a hop to.
+-- The rows turned round: node by node each enters the rows of those that it has a hop to.
 use mathlib.Core.Path.{_≡_, refl, sym, _∙_}
 use mathlib.Core.List.{List}
 use Prim.Native.Nat.{ℕ, _+_, _^_, _≤_, _<_, zero-le}
@@ -9,21 +9,19 @@ use lib.ListN.{set as store}
 use lib.Seq.{getD-set-same, getD-set-other}
 use Rattle.finite.specs.Truth.{_&_, _or_, same, below}
 use Rattle.finite.specs.Sets.{has, setOf}
-use Rattle.finite.proofs.Truth.{bcase, and-true, and-false, or-false, false-and, true-and, same-refl, same-eq, same-ne, lt-below, le-below}
+use Rattle.finite.proofs.Truth.{bcase, and-true, and-false, or-false, false-and, true-and, same-refl, same-eq, same-ne, lt-below, le-below, false-or, below-next}
 use Rattle.finite.proofs.Sets.{has-0, has-setOf}
 use Rattle.finite.proofs.Lists.{getD-zeros, tabulate-length}
 use Rattle.nodes.specs.Limits.{maxNodes}
 use Rattle.nodes.proofs.Words.{word-lt}
 use Rattle.nodes.proofs.Passing.{Pass}
-use Rattle.network.specs.Table.{edgeOf, tableFrom}
+use Rattle.network.specs.Table.{neighboursOf, edgeOf, tableFrom}
 use Rattle.network.proofs.Table.{Words, edge-tableFrom, table-ext, tableFrom-cong}
-use Rattle.turns.proofs.Sift.{false-or}
 use Rattle.rows.specs.Steps.{enteredOf, intoOf}
-use Rattle.rows.proofs.Grid.{below-next}
 
 -- ---- one node
 
--- once v also enters the words of those left, it has entered those of the whole set
+-- once v also enters the rows of those left, it has entered those of the whole set
 pub record Entering (v set : ℕ) (old from : List ℕ) (left : ℕ) : Type 0 where
   pub left-word : left < 2 ^ maxNodes
   pub size : length from ≡ maxNodes
@@ -34,7 +32,7 @@ pub entering-none : (v : ℕ) {set : ℕ} {from : List ℕ} → set < 2 ^ maxNod
 entering-none v l e w = record { left-word = l; size = e; words = w; whole = λ u a b. refl }
 
 pub entering-more : {v set left u next word : ℕ} {old from : List ℕ} → Entering v set old from left → Pass left u next
-    → word ≡ setOf maxNodes (λ a. has (getD from u 0) a or same v a) → Entering v set old (store from u word) next
+    → word ≡ setOf maxNodes (λ a. has (neighboursOf from u) a or same v a) → Entering v set old (store from u word) next
 unfolding edgeOf
 entering-more {v} {left = left} {u} {next} {word} {from = from} h p e = record {
   left-word = p .word;
@@ -73,7 +71,8 @@ module _ (ways : List ℕ) where
       (λ q. rw (← same-eq v k q, lt-below {a = v} {b = v + 1} (omega arith), le-below {a = v} {b = v} (omega arith), same-refl, and-false, or-false, true-and, and-true))
       (λ q. rw (q, false-and, false-or, below-next k v (λ e. same-ne v k q (sym e))))
 
-  pub gathered-more : (v : ℕ) {row : ℕ} {from next : List ℕ} → Gathered ways from v → row ≡ getD ways v 0 → next ≡ enteredOf v row from → Gathered ways next (v + 1)
+  pub gathered-more : (v : ℕ) {row : ℕ} {from next : List ℕ} → Gathered ways from v → row ≡ neighboursOf ways v
+      → next ≡ enteredOf v row from → Gathered ways next (v + 1)
   unfolding enteredOf edgeOf
   gathered-more v h r e =
       e ∙ tableFrom-cong _ _ (λ u k a b. rw (h, edge-tableFrom _ u k a b, r) (one-more v k u))

@@ -8,14 +8,13 @@ use lib.Seq.{getD-set-same, getD-set-other}
 use Rattle.finite.specs.Truth.{_&_, _or_, non, same, below}
 use Rattle.finite.specs.Search.{least}
 use Rattle.finite.specs.Sets.{has, setOf}
-use Rattle.finite.proofs.Truth.{no-tf, bcase, iff, refute, both, and-l, and-r, and-true, true-and, or-l, or-r, or-case, true-non, non-true, same-eq, same-ne, eq-same, ne-same, lt-below, le-below}
+use Rattle.finite.proofs.Truth.{no-tf, bcase, refute, both, and-l, and-r, and-true, true-and, or-r, or-case, true-non, non-true, same-eq, same-ne, eq-same, ne-same, lt-below, le-below, false-or, or-anew}
 use Rattle.finite.proofs.Search.{least-cong}
 use Rattle.finite.proofs.Sets.{has-0, has-lt, has-setOf, set-ext}
 use Rattle.finite.proofs.Lists.{tabulate-ext}
 use Rattle.nodes.specs.Limits.{maxNodes}
 use Rattle.nodes.proofs.Words.{word-lt}
 use Rattle.nodes.proofs.Passing.{Pass}
-use Rattle.turns.proofs.Sift.{false-or}
 use Rattle.rows.specs.Steps.{pick, leadOf, Worth, halfOf}
 use Rattle.rows.specs.declared.Side.{Side}
 
@@ -46,12 +45,6 @@ module _ (lead : ℕ → ℕ) (m left k : ℕ) where
   other : (next : ℕ) → has next k ≡ has left k → joined lead m next k ≡ joined lead m left k
   unfolding joined
   other next e = ap (λ (x : Bool). non x & (below (lead k) maxNodes & non (has m k))) e
-
--- a node that joins is one that had not
-joined-anew : (a b : Bool) → a or (b & non a) ≡ a or b
-joined-anew a b =
-    iff _ _ (λ h. or-case _ _ h (or-l b) (λ t. or-r a (and-l _ _ t)))
-    (λ h. or-case _ _ h (or-l _) (λ t. bcase a (or-l _) (λ f. or-r a (both t (true-non f)))))
 
 -- the set m and the entries e, from which half a round starts, and what they are once all but those left are passed
 pub record Halving (lead : ℕ → ℕ) (m : ℕ) (e : List ℕ) (members : ℕ) (entries : List ℕ) (left : ℕ) : Type 0 where
@@ -140,5 +133,5 @@ unfolding halfOf
 halving-all up down free falling s {members} {entries} {left} h z =
     let all : (k : ℕ) → joined (leadOf up down free falling) (s .members) left k ≡ below (leadOf up down free falling k) maxNodes & non (has (s .members) k) =
     λ k. passed (leadOf up down free falling) (s .members) left k (ap (λ (x : ℕ). has x k) z ∙ has-0 k) in
-    side-ext (set-ext maxNodes _ _ (h .word) (λ k b. h .joins k b ∙ ap (λ (x : Bool). has (s .members) k or x) (all k) ∙ joined-anew _ _))
+    side-ext (set-ext maxNodes _ _ (h .word) (λ k b. h .joins k b ∙ ap (λ (x : Bool). has (s .members) k or x) (all k) ∙ or-anew _ _))
     (tabulate-ext maxNodes _ 0 entries (h .size) (λ k b. rw (← all k) (h .takes k b)))

@@ -5,5 +5,5 @@ pub mod Frontier
 pub mod Rounds
 pub mod Grid
 pub mod Tabling
-pub mod Tight
+pub mod Determined
 pub mod Meaning

@@ -8,11 +8,11 @@ use native.Mathlib.Omega.{arith}
 use lib.ListN.{getD, set, replicate, length-set, getD-replicate}
 use lib.Seq.{getD-set-same, getD-set-other}
 use Rattle.finite.specs.Truth.{_&_, _or_, non, same, below}
-use Rattle.finite.specs.Search.{any, least}
+use Rattle.finite.specs.Search.{any}
 use Rattle.finite.specs.Sets.{has, setOf}
 use Rattle.finite.specs.Lists.{tabulate}
-use Rattle.finite.proofs.Truth.{no-tf, bcase, iff, and-true, and-false, false-and, or-l, or-r, or-case, same-eq, same-ne, below-lt, lt-below}
-use Rattle.finite.proofs.Search.{some-any, any-least, least-fact, least-cong}
+use Rattle.finite.proofs.Truth.{no-tf, bcase, iff, and-true, and-false, false-and, or-l, or-r, or-case, same-eq, same-ne}
+use Rattle.finite.proofs.Search.{least-cong, below-least}
 use Rattle.finite.proofs.Sets.{has-0, has-setOf, setOf-cong, setOf-has, set-ext}
 use Rattle.finite.proofs.Lists.{tabulate-at, tabulate-ext, tabulate-cong}
 use Rattle.nodes.specs.Limits.{maxNodes}
@@ -30,10 +30,6 @@ use Rattle.rows.proofs.Frontier.{gained}
 
 pub search-ext : {a b : Search} → a .free ≡ b .free → a .falling ≡ b .falling → a ≡ b
 search-ext p q = λ i. record { free = p i; falling = q i }
-
--- the least number is below n where some number passes
-below-least : (n : ℕ) (p : ℕ → Bool) → below (least n p) n ≡ any n p
-below-least n p = iff _ _ (λ t. let l = below-lt _ _ t in some-any n p (least n p) l (least-fact n p l)) (λ t. lt-below (any-least n p t))
 
 -- the set that a rise may lead into: a falling message may not rise
 abbrev riseInto : Bool → Layer → ℕ

@@ -4,17 +4,15 @@ use mathlib.Core.Bool.{false}
 use mathlib.Core.List.{List}
 use Prim.Native.Nat.{ℕ, _^_, _<_}
 use lib.Dec.{lit<}
-use lib.ListN.{getD}
 use Rattle.finite.specs.Truth.{_or_, same}
 use Rattle.finite.specs.Sets.{has, setOf}
-use Rattle.finite.proofs.Truth.{no-tf, bcase, iff, refute, both, and-l, and-r, or-l, or-r, or-case, or-false, same-eq, same-ne}
+use Rattle.finite.proofs.Truth.{no-tf, bcase, iff, refute, both, and-l, and-r, or-l, or-r, or-case, or-false, same-eq, same-ne, false-or}
 use Rattle.finite.proofs.Search.{some-any, any-some}
 use Rattle.finite.proofs.Sets.{has-0, has-setOf, set-ext}
 use Rattle.nodes.specs.Limits.{maxNodes}
 use Rattle.nodes.proofs.Words.{word-lt}
 use Rattle.nodes.proofs.Passing.{Pass}
-use Rattle.network.specs.Table.{edgeOf}
-use Rattle.turns.proofs.Sift.{false-or}
+use Rattle.network.specs.Table.{neighboursOf, edgeOf}
 use Rattle.rows.specs.Steps.{touches}
 
 -- all, and the words of those left, are the words of the whole set
@@ -26,7 +24,7 @@ pub record Touching (from : List ℕ) (set all left : ℕ) : Type 0 where
 pub touching-none : (from : List ℕ) {set : ℕ} → set < 2 ^ maxNodes → Touching from set 0 set
 touching-none from l = record { word = lit< tt; left-word = l; whole = λ k b. rw (has-0, or-false) }
 
-pub touching-more : {from : List ℕ} {set all left u next row more : ℕ} → Touching from set all left → Pass left u next → row ≡ getD from u 0
+pub touching-more : {from : List ℕ} {set all left u next row more : ℕ} → Touching from set all left → Pass left u next → row ≡ neighboursOf from u
     → more ≡ setOf maxNodes (λ k. has all k or has row k) → Touching from set more next
 unfolding touches edgeOf
 touching-more {from} {all = all} {left} {u} {next} h p r e = record {
@@ -35,7 +33,7 @@ touching-more {from} {all = all} {left} {u} {next} h p r e = record {
   whole = λ k b. rw (e, has-setOf maxNodes _ k b, r) (given k ∙ h .whole k b);
 }
   where
-    given : (k : ℕ) → (has all k or has (getD from u 0) k) or touches from next k ≡ has all k or touches from left k
+    given : (k : ℕ) → (has all k or has (neighboursOf from u) k) or touches from next k ≡ has all k or touches from left k
     given k =
         iff _ _
         (λ t.
@@ -46,7 +44,7 @@ touching-more {from} {all = all} {left} {u} {next} h p r e = record {
         (λ s.
         let w = any-some maxNodes _ s in
         bcase (same (w .at) u)
-        (λ q. or-l _ (or-r _ (ap (λ (x : ℕ). has (getD from x 0) k) (sym (same-eq _ _ q)) ∙ and-r _ _ (w .fact))))
+        (λ q. or-l _ (or-r _ (ap (λ (x : ℕ). has (neighboursOf from x) k) (sym (same-eq _ _ q)) ∙ and-r _ _ (w .fact))))
         (λ q. or-r _ (some-any maxNodes _ (w .at) (w .low) (both (p .kept _ (same-ne _ _ q) ∙ and-l _ _ (w .fact)) (and-r _ _ (w .fact)))))))
 
 none-touches : (from : List ℕ) (k : ℕ) → touches from 0 k ≡ false

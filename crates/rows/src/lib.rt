@@ -6,15 +6,17 @@ ghost use Rattle.finite.specs.Truth.{_&_, _or_};
 ghost use Rattle.finite.specs.Search.{least};
 ghost use Rattle.finite.specs.Sets.{has, setOf};
 ghost use Rattle.nodes.specs.Limits.{maxNodes};
+ghost use Rattle.nodes.specs.Members.{members};
 ghost use Rattle.network.specs.Table.{edgeOf};
 ghost use Rattle.rows.specs.Tables.{tableSize, tablesOf};
 ghost use Rattle.rows.specs.Steps.{waysOf, startOf, enteredOf, intoOf, touches, Worth, Asking, halfOf, roundOf, rounds, searchAt, OfWays, columnOf, placedOf};
 use nodes::MAX_NODES;
+use nodes::Set;
 
 // The bytes of a table with a row for each of 64 nodes.
 pub const TABLE: usize = MAX_NODES * MAX_NODES;
 
-// 01: "255 exactly when none exists"
+// RULES 5.3: "255 exactly when there is none"
 pub const NONE: u8 = 255;
 
 // After so many rounds of a search no node joins.
@@ -22,8 +24,8 @@ const ROUNDS: usize = MAX_NODES + MAX_NODES;
 
 // For each node the neighbours that a hop rises to, and those that it falls to.
 struct Ways {
-    up: [u64; MAX_NODES],
-    down: [u64; MAX_NODES],
+    up: network::Table,
+    down: network::Table,
 }
 
 fn ways_of(t: &[u64], labels: &[u8]) -> Ways
@@ -40,7 +42,7 @@ fn ways_of(t: &[u64], labels: &[u8]) -> Ways
 
 // One class of a search: the nodes that have joined, and the entry of each of them.
 struct Side {
-    members: u64,
+    members: Set,
     entries: [u8; MAX_NODES],
 }
 
@@ -68,80 +70,88 @@ fn start(t: usize) -> Search
 }
 
 // The lowest node to which a hop leads: up into the free set, or down into the falling one. 64 where there is none.
-fn lead(up: u64, down: u64, free: u64, falling: u64) -> usize
-    ensures { λ r. ⌜ r ≡ least maxNodes (λ u. has up u & has free u or has down u & has falling u) ⌝ }
+fn lead(up: Set, down: Set, free: Set, falling: Set) -> usize
+    ensures { λ r. ⌜ r ≡ least maxNodes (λ u. has (members up) u & has (members free) u or has (members down) u & has (members falling) u) ⌝ }
 {
     nodes::lowest(nodes::union(nodes::common(up, free), nodes::common(down, falling)))
 }
 
-// v joins the words of the nodes of the set.
-fn enter(from: &mut [u64], v: usize, set: u64)
+// v joins the rows of the nodes of the set.
+fn enter(from: &mut [u64], v: usize, set: Set)
     requires { ⌜ length (now from) ≡ maxNodes ⌝ }
-    ensures { λ _. ⌜ now (from .exit) ≡ enteredOf v set (now (from .entry)) ⌝ }
+    ensures { λ _. ⌜ now (from .exit) ≡ enteredOf v (members set) (now (from .entry)) ⌝ }
 {
     let mut left = set;
-    while left != 0 {
+    while !nodes::is_empty(left) {
         let u = nodes::lowest(left);
         left = nodes::rest(left);
-        from[u] = nodes::with(from[u], v);
+        from[u] = nodes::with(network::neighbours(from, u), v);
     }
 }
 
-// The words turned round: for each node those from which one of these hops leads to it.
-fn into_of(ways: &[u64]) -> [u64; MAX_NODES]
+// The rows turned round: for each node those from which one of these hops leads to it.
+fn into_of(ways: &[u64]) -> network::Table
     ensures { λ r. ⌜ r ≡ intoOf (now (ways .entry)) ⌝ }
 {
     let mut from = [0u64; MAX_NODES];
     for v in 0..MAX_NODES {
-        enter(&mut from, v, network::row(ways, v));
+        enter(&mut from, v, network::neighbours(ways, v));
     }
     from
 }
 
-// The nodes in the word of some node of the set.
-fn touching(from: &[u64], set: u64) -> u64
-    ensures { λ r. ⌜ r ≡ setOf maxNodes (touches (now (from .entry)) set) ⌝ }
+// The nodes in the row of some node of the set.
+fn touching(from: &[u64], set: Set) -> Set
+    ensures { λ r. ⌜ members r ≡ setOf maxNodes (touches (now (from .entry)) (members set)) ⌝ }
 {
-    let mut all = 0u64;
+    let mut all = nodes::none();
     let mut left = set;
-    while left != 0 {
+    while !nodes::is_empty(left) {
         let u = nodes::lowest(left);
         left = nodes::rest(left);
-        all = nodes::union(all, network::row(from, u));
+        all = nodes::union(all, network::neighbours(from, u));
     }
     all
 }
 
 // One class of a round: every node worth asking that has not joined yet joins where a hop leads from it. All tests go by the sets free and falling.
-fn half(up: &[u64], down: &[u64], worth: u64, free: u64, falling: u64, side: Side) -> Side
-    requires { ⌜ Worth (now up) (now down) free falling (side .members) (has worth) ⌝ }
-    ensures { λ r. ⌜ r ≡ halfOf (now (up .entry)) (now (down .entry)) free falling side ⌝ }
+fn half(up: &[u64], down: &[u64], worth: Set, free: Set, falling: Set, side: Side) -> Side
+    requires { ⌜ Worth (now up) (now down) (members free) (members falling) (members (side .members)) (has (members worth)) ⌝ }
+    ensures { λ r. ⌜ r ≡ halfOf (now (up .entry)) (now (down .entry)) (members free) (members falling) side ⌝ }
 {
-    let mut members = side.members;
+    let mut joined = side.members;
     let mut entries = side.entries;
     let mut left = nodes::difference(worth, side.members);
-    while left != 0 {
+    while !nodes::is_empty(left) {
         let v = nodes::lowest(left);
         left = nodes::rest(left);
-        let u = lead(network::row(up, v), network::row(down, v), free, falling);
+        let u = lead(
+            network::neighbours(up, v),
+            network::neighbours(down, v),
+            free,
+            falling,
+        );
         if u < MAX_NODES {
             entries[v] = u as u8;
-            members = nodes::with(members, v);
+            joined = nodes::with(joined, v);
         }
     }
-    Side { members, entries }
+    Side {
+        members: joined,
+        entries,
+    }
 }
 
 // One round, which asks those who can rise to what is newly free and those who can fall to what is newly falling.
 // What falls already can't rise: it has no free set to rise into.
-fn round(up: &[u64], down: &[u64], rise: u64, fall: u64, s: Search) -> Search
-    requires { ⌜ Asking (now up) (now down) s rise fall ⌝ }
+fn round(up: &[u64], down: &[u64], rise: Set, fall: Set, s: Search) -> Search
+    requires { ⌜ Asking (now up) (now down) s (members rise) (members fall) ⌝ }
     ensures { λ r. ⌜ r ≡ roundOf (now (up .entry)) (now (down .entry)) s ⌝ }
 {
     let a = s.free;
     let b = s.falling;
     let free = half(up, down, nodes::union(rise, fall), a.members, b.members, a);
-    let falling = half(up, down, fall, 0, b.members, b);
+    let falling = half(up, down, fall, nodes::none(), b.members, b);
     Search { free, falling }
 }
 
@@ -163,7 +173,7 @@ fn search_for(up: &[u64], down: &[u64], over: &[u64], under: &[u64], t: usize) -
         let d = next.falling;
         new_free = nodes::difference(c.members, a.members);
         new_falling = nodes::difference(d.members, b.members);
-        if nodes::union(new_free, new_falling) == 0 {
+        if nodes::is_empty(nodes::union(new_free, new_falling)) {
             return s;
         }
         s = next;

@@ -2,13 +2,12 @@
 use mathlib.Core.Path.{_≡_}
 use mathlib.Core.Bool.{Bool, true, false}
 use Prim.Native.Nat.{ℕ, suc, _≤_, suc-le-suc}
-use Rattle.finite.specs.Truth.{_&_}
 use Rattle.finite.specs.Search.{Some}
 use Rattle.finite.proofs.Truth.{and-l, and-r, non-true}
-use Rattle.finite.proofs.Sum.{count-bound}
 use Rattle.finite.proofs.Search.{leastBy-least, leastBy-le, least-by-unique}
 use Rattle.graph.specs.Network.{degree}
 use Rattle.graph.specs.Reach.{cut}
+use Rattle.graph.proofs.Remaining.{degree-le}
 use Rattle.rule.specs.Candidate.{candidate, choice, Chosen}
 
 pub candidate-in : (n : ℕ) (edge : ℕ → ℕ → Bool) (R : ℕ → Bool) (v : ℕ) → candidate n edge R v ≡ true → R v ≡ true
@@ -18,10 +17,6 @@ candidate-in n edge R v h = and-l _ _ h
 pub candidate-uncut : (n : ℕ) (edge : ℕ → ℕ → Bool) (R : ℕ → Bool) (v : ℕ) → candidate n edge R v ≡ true → cut n edge R v ≡ false
 unfolding candidate
 candidate-uncut n edge R v h = non-true _ (and-r _ _ (and-r _ _ h))
-
-degree-le : (n : ℕ) (edge : ℕ → ℕ → Bool) (R : ℕ → Bool) (v : ℕ) → degree n edge R v ≤ n
-unfolding degree
-degree-le n edge R v = count-bound n (λ u. R u & edge v u)
 
 module _ (n : ℕ) (edge : ℕ → ℕ → Bool) (R : ℕ → Bool) where
   pub choice-chosen : Some n (candidate n edge R) → Chosen n edge R (choice n edge R)

@@ -12,26 +12,21 @@ use Rattle.finite.specs.Sets.{without}
 use Rattle.finite.proofs.Truth.{both, refute, and-l, and-r, true-non, same-eq, eq-same, lt-below}
 use Rattle.finite.proofs.Sum.{count-le, count-member, sum-only}
 use Rattle.finite.proofs.Sets.{without-in, without-ne}
-use Rattle.graph.specs.Network.{Network, Members, Connected, Walk, here, step, among, degree}
-use Rattle.graph.proofs.Walk.{among-edge, among-to}
+use Rattle.graph.specs.Network.{Network, Members, Connected, Walk, here, among, degree}
+use Rattle.graph.proofs.Walk.{among-edge, among-to, first-link}
 use Rattle.graph.proofs.Connected.{cut-iff}
-use Rattle.lawful.specs.Turn.{rises, Climbing}
+use Rattle.lawful.specs.Turn.{rises, Climbing, labelIn}
 use Rattle.rule.specs.Candidate.{room, candidate, choice}
-use Rattle.rule.specs.Labels.{labelIn, labelsOf, above}
+use Rattle.rule.specs.Labels.{labelsOf, above}
 use Rattle.rule.proofs.Exists.{candidate-exists}
 use Rattle.rule.proofs.Choice.{choice-chosen, candidate-in}
 use Rattle.rule.proofs.Labels.{label, in-above, above-low, above-gt, above-connected, label-pos, label-once, label-le, labels-by-rule}
-
--- a walk to another node has a first link
-first-link : {edge : ℕ → ℕ → Bool} {a b : ℕ} → Walk edge a b → (a ≡ b → ⊥) → (u : ℕ) × (edge a u ≡ true)
-first-link here d = absurd (d refl)
-first-link (step {b = u} h w) d = (u, h)
 
 module _ (n : ℕ) (edge : ℕ → ℕ → Bool) (net : Network n edge) (m : ℕ) (small : m ≤ n) (whole : Connected edge (λ v. below v m)) where
   abbrev l : ℕ → ℕ
   l = label n edge net m small whole
 
-  -- 01: "each node but the one labelled N has a neighbour with a higher label"
+  -- each node but the one labelled N has a neighbour with a higher label
   pub label-climbs : (v : ℕ) → v < m → l v < m → Some m (λ u. edge v u & below (l v) (l u))
   label-climbs v b h =
       let (k, q) = le-dest (label-pos n edge net m small whole v b) in
@@ -107,7 +102,7 @@ module _ (n : ℕ) (edge : ℕ → ℕ → Bool) (net : Network n edge) (R : ℕ
       alone : Connected edge (without R a)
       alone x y hx hy = subst (λ (z : ℕ). Walk (among (without R a) edge) x z) (sym (only x hx) ∙ only y hy) here
 
-  -- 01: "For two remaining nodes the rule gives the lower number first"
+  -- RULES 4.3: "Of two remaining nodes the lower number comes first."
   pub lower-first : choice n edge R ≡ a
   lower-first =
       let c = choice-chosen n edge R (candidate-exists n edge net R m whole (record { at = a; low = m a ra; fact = ra })) in

@@ -1,4 +1,4 @@
--- 001's Lemma 2: a connected remaining graph has a candidate.
+-- RULES 4.2: "A candidate always exists (the paper's Lemma 2)": a connected remaining graph has one.
 use mathlib.Core.Bool.{Bool}
 use Prim.Native.Nat.{ℕ, _+_, _*_}
 use Rattle.finite.specs.Sum.{when}

@@ -13,19 +13,16 @@ use Rattle.finite.proofs.Sum.{count-member}
 use Rattle.finite.proofs.Sets.{in-without}
 use Rattle.finite.proofs.Lists.{getD-zeros}
 use Rattle.graph.specs.Network.{Network, Connected}
+use Rattle.lawful.specs.Turn.{labelIn}
 use Rattle.rule.specs.Candidate.{Chosen}
-use Rattle.rule.specs.Labels.{labelIn, remains, labelled, labelsOf, above, ByRule}
+use Rattle.rule.specs.Labels.{remains, labelled, labelsOf, above, ByRule}
 use Rattle.rule.proofs.Choice.{candidate-in, chosen-unique}
-use Rattle.rule.proofs.Stages.{Staged, staged, nodeAt, node-chosen, labelled-more, remains-more}
+use Rattle.rule.proofs.Stages.{Staged, staged, nodeAt, node-chosen, labelled-more, remains-more, remains-low}
 
 -- a node remains where it is one of the first m and its label is 0
 remains-zero : (m : ℕ) (labels : List ℕ) (v : ℕ) → remains m labels v ≡ true → labelIn labels v ≡ 0
 unfolding remains
 remains-zero m labels v h = same-eq _ _ (and-r _ _ h)
-
-pub remains-low : (m : ℕ) (labels : List ℕ) (v : ℕ) → remains m labels v ≡ true → v < m
-unfolding remains
-remains-low m labels v h = below-lt _ _ (and-l _ _ h)
 
 zero-remains : (m : ℕ) (labels : List ℕ) (v : ℕ) → v < m → labelIn labels v ≡ 0 → remains m labels v ≡ true
 unfolding remains

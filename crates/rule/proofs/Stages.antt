@@ -1,6 +1,6 @@
 -- The stages one by one, on a connected network: what remains loses the chosen node, stays connected, and has one node less.
 use mathlib.Core.Path.{_≡_, sym, _∙_, ap, fun-ext}
-use mathlib.Core.Bool.{Bool}
+use mathlib.Core.Bool.{Bool, true}
 use mathlib.Core.List.{List}
 use Prim.Native.Nat.{ℕ, zero, suc, _+_, _≤_, _<_}
 use native.Mathlib.Omega.{arith}
@@ -9,16 +9,25 @@ use lib.Seq.{getD-set-same, getD-set-other}
 use Rattle.finite.specs.Truth.{_&_, same, below}
 use Rattle.finite.specs.Sum.{count}
 use Rattle.finite.specs.Sets.{without}
-use Rattle.finite.proofs.Truth.{no-tf, bcase, iff, refute, both, and-l, and-r, true-and, non-true, true-non, same-eq, same-ne, eq-same, below-lt, lt-below}
+use Rattle.finite.proofs.Truth.{no-tf, bcase, iff, refute, both, and-l, and-r, true-and, non-true, true-non, same-eq, same-ne, eq-same, below-lt, lt-below, below-le}
 use Rattle.finite.proofs.Sum.{count-without, count-below}
 use Rattle.finite.proofs.Search.{count-some}
 use Rattle.finite.proofs.Lists.{getD-zeros}
+use Rattle.finite.proofs.Sets.{without-other}
 use Rattle.graph.specs.Network.{Network, Members, Connected}
 use Rattle.graph.proofs.Connected.{uncut-connected}
+use Rattle.lawful.specs.Turn.{labelIn}
 use Rattle.rule.specs.Candidate.{choice, Chosen}
-use Rattle.rule.specs.Labels.{labelIn, remains, give, stage, labelled}
+use Rattle.rule.specs.Labels.{remains, give, stage, labelled}
 use Rattle.rule.proofs.Exists.{candidate-exists}
 use Rattle.rule.proofs.Choice.{choice-chosen, candidate-in, candidate-uncut}
+
+pub remains-low : (m : ℕ) (labels : List ℕ) (v : ℕ) → remains m labels v ≡ true → v < m
+unfolding remains
+remains-low m labels v h = below-lt _ _ (and-l _ _ h)
+
+pub remains-in : (m n : ℕ) (labels : List ℕ) → m ≤ n → Members n (remains m labels)
+remains-in m n labels few v h = let l = remains-low m labels v h in omega arith
 
 -- at first all m nodes remain
 pub remains-start : (n m : ℕ) → remains m (replicate n 0) ≡ (λ v. below v m)
@@ -45,6 +54,15 @@ pub give-length : (n v k : ℕ) (labels : List ℕ) → length (give n v k label
 unfolding give
 give-length n v k labels = bcase (below v n) (λ t. rw (t, give) (length-set labels v k)) (λ t. rw (t, give))
 
+-- giving v a label takes it out of what remains, and so does giving none to a v that is no node
+pub remains-give : (n m v k : ℕ) (labels : List ℕ) → length labels ≡ n → m ≤ n → remains m (give n v (suc k) labels) ≡ without (remains m labels) v
+unfolding give remains
+remains-give n m v k labels e l =
+    bcase (below v n) (λ t. rw (t, give) (remains-set m v k labels (rw e (below-lt _ _ t))))
+    (λ t.
+    rw (t, give) (fun-ext (λ u.
+    sym (without-other (remains m labels) v u (refute _ (λ h. let a = below-lt _ _ (and-l _ _ h) in let b = below-le _ _ t in omega arith))))))
+
 -- there are always n labels
 pub labelled-length : (n : ℕ) (edge : ℕ → ℕ → Bool) (m k : ℕ) → length (labelled n edge m k) ≡ n
 unfolding labelled stage
@@ -57,10 +75,6 @@ module _ (n : ℕ) (edge : ℕ → ℕ → Bool) (net : Network n edge) (m : ℕ
     pub size : length (labelled n edge m k) ≡ n
     pub left : count n (remains m (labelled n edge m k)) + k ≡ m
     pub connected : Connected edge (remains m (labelled n edge m k))
-
-  pub remains-low : (labels : List ℕ) → Members n (remains m labels)
-  unfolding remains
-  remains-low labels v h = let l = below-lt _ _ (and-l _ _ h) in omega arith
 
   -- the node that gets label k + 1
   abbrev pub nodeAt : ℕ → ℕ
@@ -76,7 +90,7 @@ module _ (n : ℕ) (edge : ℕ → ℕ → Bool) (net : Network n edge) (m : ℕ
 
   -- while a node remains, one is chosen
   pub node-chosen : (k : ℕ) → Staged k → k < m → Chosen n edge (remains m (labelled n edge m k)) (nodeAt k)
-  node-chosen k s l = choice-chosen n edge _ (candidate-exists n edge net _ (remains-low _) (s .connected) (count-some n _ (let e = s .left in omega arith)))
+  node-chosen k s l = choice-chosen n edge _ (candidate-exists n edge net _ (remains-in m n _ small) (s .connected) (count-some n _ (let e = s .left in omega arith)))
 
   pub labelled-more : (k : ℕ) → Staged k → k < m → labelled n edge m (suc k) ≡ set (labelled n edge m k) (nodeAt k) (suc k)
   unfolding labelled stage give
@@ -96,7 +110,7 @@ module _ (n : ℕ) (edge : ℕ → ℕ → Bool) (net : Network n edge) (m : ℕ
       record {
         size = ap length (labelled-more k s l) ∙ length-set (labelled n edge m k) (nodeAt k) (suc k) ∙ s .size;
         left = rw (remains-more k s l) (omega arith);
-        connected = rw (remains-more k s l) (uncut-connected n edge net R (remains-low _) (nodeAt k) (candidate-uncut n edge R (nodeAt k) (c .fact)));
+        connected = rw (remains-more k s l) (uncut-connected n edge net R (remains-in m n _ small) (nodeAt k) (candidate-uncut n edge R (nodeAt k) (c .fact)));
       }
 
   pub staged : (k : ℕ) → k ≤ m → Staged k

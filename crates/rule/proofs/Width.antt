@@ -15,16 +15,14 @@ use Rattle.finite.proofs.Lists.{padded-ext}
 use Rattle.graph.specs.Network.{Network, Members, Connected, degree}
 use Rattle.graph.specs.Reach.{cut}
 use Rattle.graph.proofs.Connected.{cut-iff}
+use Rattle.graph.proofs.Walk.{network-wider}
+use Rattle.lawful.specs.Turn.{labelIn}
 use Rattle.rule.specs.Candidate.{room, candidate, Chosen}
-use Rattle.rule.specs.Labels.{labelIn, labelsOf, above}
+use Rattle.rule.specs.Labels.{labelsOf, above}
 use Rattle.rule.proofs.Stages.{labelled-length}
 use Rattle.rule.proofs.Labels.{label, above-low, label-out, labels-by-rule, labels-unique}
 
 module _ (m n : ℕ) (small : m ≤ n) (edge : ℕ → ℕ → Bool) (net : Network m edge) where
-  -- a network of m nodes is one of more
-  pub wider : Network n edge
-  wider = record { undirected = net .undirected; no-loop = net .no-loop; inside = λ a b h. let l = net .inside a b h in omega arith }
-
   -- the remaining nodes are among the m
   module _ (R : ℕ → Bool) (low : Members m R) where
     degree-width : (v : ℕ) → degree n edge R v ≡ degree m edge R v
@@ -40,7 +38,7 @@ module _ (m n : ℕ) (small : m ≤ n) (edge : ℕ → ℕ → Bool) (net : Netw
 
     cut-width : (v : ℕ) → cut n edge R v ≡ cut m edge R v
     cut-width v =
-        let i = cut-iff n edge wider R (λ u h. let l = low u h in omega arith) v in
+        let i = cut-iff n edge (network-wider m n small edge net) R (λ u h. let l = low u h in omega arith) v in
         let j = cut-iff m edge net R low v in
         iff _ _ (λ t. j .1 (i .0 t)) (λ t. i .1 (j .0 t))
 
@@ -64,7 +62,7 @@ module _ (m n : ℕ) (small : m ≤ n) (edge : ℕ → ℕ → Bool) (net : Netw
     label-width v b =
         let r = labels-by-rule m edge net m (le-refl m) whole in
         let l : ℕ → ℕ = label m edge net m (le-refl m) whole in
-        sym (labels-unique n edge wider m small whole l (record {
+        sym (labels-unique n edge (network-wider m n small edge net) m small whole l (record {
           positive = r .positive;
           given = r .given;
           chosen = λ v j h e. chosen-width (above m l j) (λ u t. above-low m l j u t) v (r .chosen v j h e);
@@ -78,4 +76,4 @@ module _ (m n : ℕ) (small : m ≤ n) (edge : ℕ → ℕ → Bool) (net : Netw
         padded-ext n (labelsOf m edge m) (labelsOf n edge m) (omega arith) (labelled-length n edge m m)
         (λ v b.
         bcase (below v m) (λ t. label-width v (below-lt _ _ t))
-        (λ t. label-out n edge wider m small whole v (below-le _ _ t) ∙ sym (List·getD-eq-default (labelsOf m edge m) 0 (rw long (below-le _ _ t)))))
+        (λ t. label-out n edge (network-wider m n small edge net) m small whole v (below-le _ _ t) ∙ sym (List·getD-eq-default (labelsOf m edge m) 0 (rw long (below-le _ _ t)))))

@@ -1,16 +1,13 @@
--- 01, "The labelling rule", step 3: stages run on the remaining graph, and labels 1, 2, .. are given in order. The state is the list of the labels so far.
+-- RULES 4.1: stages run on the remaining graph, and labels 1, 2, .. are given in order. The state is the list of the labels so far.
 use mathlib.Core.Path.{_≡_}
 use mathlib.Core.Bool.{Bool, true, false}
 use mathlib.Core.List.{List}
 use Prim.Native.Nat.{ℕ, zero, suc, _<_}
-use lib.ListN.{getD, set, replicate}
+use lib.ListN.{set, replicate}
 use Rattle.finite.specs.Truth.{_&_, same, below}
 use Rattle.finite.specs.Search.{Some}
+use Rattle.lawful.specs.Turn.{labelIn}
 use Rattle.rule.specs.Candidate.{choice, Chosen}
-
--- the label of a node, 0 while it has none
-abbrev pub labelIn : List ℕ → ℕ → ℕ
-labelIn labels v = getD labels v 0
 
 -- one of the first m nodes remains while it has no label
 unfoldable pub remains : ℕ → List ℕ → ℕ → Bool
@@ -20,7 +17,7 @@ remains m labels v = below v m & same (labelIn labels v) 0
 unfoldable pub give : ℕ → ℕ → ℕ → List ℕ → List ℕ
 give n v k labels = elim (below v n) [ true ↦ set labels v k | false ↦ labels ]
 
--- "Give it the next label and delete it."
+-- RULES 4.1: "the node that is chosen (4.3) gets the next label and is struck out"
 unfoldable pub stage : ℕ → (ℕ → ℕ → Bool) → ℕ → ℕ → List ℕ → List ℕ
 stage n edge m k labels = give n (choice n edge (remains m labels)) k labels
 
@@ -36,7 +33,8 @@ labelsOf n edge m = labelled n edge m m
 unfoldable pub above : ℕ → (ℕ → ℕ) → ℕ → ℕ → Bool
 above m label k v = below v m & below k (label v)
 
--- what 01 says of the labels in words: each node has one, each of 1, 2, .. m is given, and the node with label k + 1 is the one to choose of those whose labels are above k
+-- what RULES 4.1 says of the labels: each node has one, each of 1, 2, .. m is given, and the node with label k + 1 is the one to choose of those whose labels
+-- are above k
 pub record ByRule (n : ℕ) (edge : ℕ → ℕ → Bool) (m : ℕ) (label : ℕ → ℕ) : Type 0 where
   pub positive : (v : ℕ) → v < m → 0 < label v
   pub given : (k : ℕ) → k < m → Some m (λ v. same (label v) (suc k))

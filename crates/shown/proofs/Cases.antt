@@ -16,9 +16,9 @@ use Rattle.fabric.proofs.Making.{made-verdict, made-fabric}
 use Rattle.laid.specs.Laid.{Page}
 use Rattle.laid.specs.Lays.{Lays}
 use Rattle.laid.proofs.Pieces.{lays-as}
-use Rattle.written.specs.declared.Written.{Written}
-use Rattle.written.specs.declared.Written.the-variants.{Bytes}
-use Rattle.written.specs.Written.{Writes, roomFor}
+use Rattle.results.specs.declared.Written.{Written}
+use Rattle.results.specs.declared.Written.the-variants.{Bytes}
+use Rattle.results.specs.Written.{Writes, roomFor}
 use Rattle.lines.specs.Lines.{refusalLine, longestRefusal, orRefused}
 use Rattle.lines.proofs.Printed.{lays-prints, fault-prints}
 use Rattle.format.specs.Contents.{pairsIn}
@@ -43,7 +43,7 @@ module _ (b : List ℕ) {m : Made} (e : m ≡ madeBy (imageFault b) (cablingIn b
       let (g, h) = full-asks (cablingIn b) f (accepted-good b fine) p in
       record { fine = fine; cabling = cabling-of (cablingIn b) f p; good = g; fabric = h }
 
-  -- "All print only `refused`, number, place on a refusal."
+  -- RULES 10.1: "On a refusal it prints only `refused`, number, place."
   pub shown-refused : {before after : List ℕ} {r : Refusal} {answer : Written} → longestShow ≤ length before → m .verdict ≡ Fault r
       → Writes (roomFor longestRefusal before) (refusalLine r) before answer after → Writes (roomFor longestShow before) (outputOf b) before answer after
   unfolding outputOf
@@ -54,7 +54,7 @@ pub shown-report : {b : List ℕ} {f : Fabric} {pairs before : List ℕ} {p : Pa
 unfolding outputOf
 shown-report {b} room o l = lays-prints (reportOf (cablingIn b)) room (o .fine) (lays-as l (ap reportOf (o .cabling)))
 
--- "Show takes either image"
+-- RULES 10.3: "Show takes either image"
 pub either-image : {c : Cabling} → Good c → (full : Bool) → outputOf (imageOf (kindsOf full) c) ≡ reportOf c
 unfolding outputOf orRefused
 either-image {c} g full =

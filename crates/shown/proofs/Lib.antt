@@ -1,4 +1,4 @@
 pub mod Tables
 pub mod Lines
 pub mod Cases
-pub mod Tight
+pub mod Determined

@@ -22,11 +22,7 @@ use Rattle.text.specs.Text.{decimalOf}
 use Rattle.text.proofs.Decimal.{decimal-bound, decimal-short}
 use Rattle.lines.specs.Lines.{withLine}
 use Rattle.lines.proofs.Whole.{Short, within-line}
-use Rattle.shown.specs.Shows.{fabricWord, fabricFields, fabricLine, freeEntry, freeRow, nodeLine, nodeLines, longestShow, reportOf}
-
--- the bytes of a node's line, at the most
-abbrev lineSize : ℕ
-lineSize = 263
+use Rattle.shown.specs.Shows.{fabricWord, fabricFields, fabricLine, freeEntry, freeRow, nodeLine, nodeLines, longestFabricLine, longestNodeLine, longestShow, reportOf}
 
 -- the fabric's line alone, in a buffer with room for all
 pub record Begun (c : Cabling) (before : List ℕ) (first : Page) : Type 0 where
@@ -37,7 +33,7 @@ pub record Begun (c : Cabling) (before : List ℕ) (first : Page) : Type 0 where
 pub record Printed (c : Cabling) (first p : Page) (v : ℕ) : Type 0 where
   pub good : Good c
   pub low : v ≤ c .nodes
-  pub within : (before : List ℕ) → Begun c before first → Within before p (fabricLine c ++ nodeLines c v) (95 + v * lineSize)
+  pub within : (before : List ℕ) → Begun c before first → Within before p (fabricLine c ++ nodeLines c v) (longestFabricLine + v * longestNodeLine)
 
 -- ---- a label and an entry have at most three digits
 
@@ -73,7 +69,8 @@ printed-begin {c} first good = record {
   low = omega arith;
   within = λ before s.
       let room = s .room in
-      within-as 95 (within-line 21 fabricWord (fabricFields c) 6 (le-refl 6) (λ i l. decimal-bound _) (within-none before) (s .line) (omega arith)) (sym (append-nil _)) (lit≤ tt);
+      let w = within-line 21 fabricWord (fabricFields c) 6 (le-refl 6) (λ i l. decimal-bound _) (within-none before) (s .line) (omega arith) in
+      within-as longestFabricLine w (sym (append-nil _)) (lit≤ tt);
 }
 
 pub printed-next : {c : Cabling} {first p q : Page} {v label : ℕ} {row : List ℕ} → Printed c first p v → v < c .nodes
@@ -89,7 +86,7 @@ printed-next {c} {first} {p} {v = v} t l a b e =
       within = λ before s.
           let room = s .room in
           let w = within-line 3 (decimalOf v) _ 2 (decimal-short v 1 (omega arith)) (numbers-short (t .good) v l) (t .within before s) line (omega arith) in
-          rw add-one (within-as (95 + suc v * lineSize) w (append-assoc (fabricLine c) (nodeLines c v) (nodeLine c v)) (omega arith));
+          rw add-one (within-as (longestFabricLine + suc v * longestNodeLine) w (append-assoc (fabricLine c) (nodeLines c v) (nodeLine c v)) (omega arith));
     }
 
 pub printed-end : {c : Cabling} {before : List ℕ} {first p : Page} {v : ℕ} → Begun c before first → Printed c first p v → c .nodes ≤ v → Lays before p (reportOf c)
@@ -97,4 +94,4 @@ unfolding reportOf
 printed-end {c} {before} {v = v} s t l =
     let low = t .low in
     let e : v ≡ c .nodes = omega arith in
-    within-as (95 + v * lineSize) (t .within before s) (ap (λ (k : ℕ). fabricLine c ++ nodeLines c k) e) (le-refl _) .lays
+    within-as (longestFabricLine + v * longestNodeLine) (t .within before s) (ap (λ (k : ℕ). fabricLine c ++ nodeLines c k) e) (le-refl _) .lays

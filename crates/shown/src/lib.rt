@@ -9,14 +9,20 @@ ghost use Rattle.laid.specs.Laid.{page};
 ghost use Rattle.laid.specs.Lays.{Lays};
 ghost use Rattle.text.specs.Text.{decimalOf};
 ghost use Rattle.lines.specs.Lines.{withLine};
-ghost use Rattle.written.specs.Written.{Writes, roomFor};
+ghost use Rattle.results.specs.Written.{Writes, roomFor};
 ghost use Rattle.shown.specs.Shows.{fabricWord, fabricFields, reportOf, longestShow, outputOf};
+use nodes::MAX_NODES;
 use refusal::Refusal;
 use refusal::Verdict;
-use written::Written;
+use results::Written;
+
+// The bytes of the first line at the most, and of a node's.
+const FABRIC_LINE: usize = 6 + 4 * (1 + 21) + 1;
+
+const NODE_LINE: usize = 2 + (1 + MAX_NODES) * (1 + 3) + 1;
 
 // How much it prints at the most.
-pub const LONGEST: usize = 16927;
+pub const LONGEST: usize = FABRIC_LINE + MAX_NODES * NODE_LINE;
 
 // The first line.
 fn fabric_line(n: usize, labels: &[u8], pairs: &[u8], out: &mut [u8]) -> usize
@@ -56,13 +62,13 @@ fn report<'a>(
     let mut at = fabric_line(n, labels, pairs, out);
     for v in 0..n {
         let row = hops::row(
-            written::front(free, size),
-            written::front(falling, size),
+            slices::front(free, size),
+            slices::front(falling, size),
             n,
             v,
             0,
         );
-        at = node_line(out, at, v, network::byte_at(labels, v), row);
+        at = node_line(out, at, v, slices::byte_at(labels, v), row);
     }
     at
 }

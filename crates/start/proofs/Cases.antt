@@ -21,6 +21,7 @@ use Rattle.image.specs.Image.{cablingIn}
 use Rattle.image.specs.Calls.{imageFault}
 use Rattle.image.proofs.Faults.{then-fine, then-fault}
 use Rattle.messages.specs.declared.Record.{Record}
+use Rattle.messages.specs.Sizes.{maxList}
 use Rattle.messages.specs.Fresh.{sourceIn, targetIn}
 use Rattle.start.specs.Start.{fits, strange, listFault, startFault, freshIn, freshOf, recordAfter, beside, startOf}
 
@@ -36,13 +37,13 @@ strange-target n list p h = rw (lt-leb _ _ h, strange)
 -- 11
 pub odd-list : (n : ℕ) (list : List ℕ) → (length list % 2 ≡ 0 → ⊥) → Fault Messages ≡ listFault n list
 unfolding listFault fits
-odd-list n list h = rw (refute (eqb (length list % 2) 0 & leb (length list) 512) (λ t. h (eqb-true _ _ (and-l _ _ t))), listFault)
+odd-list n list h = rw (refute (eqb (length list % 2) 0 & leb (length list) maxList) (λ t. h (eqb-true _ _ (and-l _ _ t))), listFault)
 
-pub long-list : (n : ℕ) (list : List ℕ) → 512 < length list → Fault Messages ≡ listFault n list
+pub long-list : (n : ℕ) (list : List ℕ) → maxList < length list → Fault Messages ≡ listFault n list
 unfolding listFault fits
-long-list n list h = rw (refute (eqb (length list % 2) 0 & leb (length list) 512) (λ t. no-tf (and-r _ _ t) (lt-leb _ _ h)), listFault)
+long-list n list h = rw (refute (eqb (length list % 2) 0 & leb (length list) maxList) (λ t. no-tf (and-r _ _ t) (lt-leb _ _ h)), listFault)
 
-module _ (n : ℕ) (list : List ℕ) (even : length list % 2 ≡ 0) (short : length list ≤ 512) where
+module _ (n : ℕ) (list : List ℕ) (even : length list % 2 ≡ 0) (short : length list ≤ maxList) where
   fitting : fits list ≡ true
   unfolding fits
   fitting = both (rw even refl) (le-leb _ _ short)

@@ -14,7 +14,7 @@ use Rattle.nodes.specs.Limits.{maxNodes}
 use Rattle.refusal.specs.declared.Verdict.the-variants.{Fine}
 use Rattle.cabling.specs.Cabling.{Cabling, Good, links}
 use Rattle.cabling.proofs.Joined.{good-network}
-use Rattle.lawful.specs.Turn.{Climbing}
+use Rattle.lawful.specs.Turn.{Climbing, labelIn}
 use Rattle.lawful.specs.Entry.{entry}
 use Rattle.rows.specs.Tables.{tableSize}
 use Rattle.fabric.specs.Fabric.{labelsFor, labelFor, rowsFor, fabricOf}
@@ -26,7 +26,7 @@ use Rattle.image.specs.Calls.{imageFault}
 use Rattle.image.proofs.Faults.{and-then-fine}
 use Rattle.image.proofs.Images.{accepted-good}
 use Rattle.messages.specs.declared.Record.{Record}
-use Rattle.messages.specs.Runs.{labelIn, Tabled, Listed, Reached, fresh}
+use Rattle.messages.specs.Runs.{Tabled, Listed, Reached, fresh}
 use Rattle.start.specs.declared.Started.{Started}
 use Rattle.start.specs.Start.{listFault, startFault, freshOf, recordAfter, startOf}
 use Rattle.start.specs.Verdicts.{OfList, fine}

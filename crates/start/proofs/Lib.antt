@@ -1,4 +1,4 @@
 pub mod Cases
 pub mod Meaning
 pub mod Fabrics
-pub mod Tight
+pub mod Determined

@@ -1,4 +1,4 @@
--- The verdicts of start mean what 01 says: each is given exactly where its row of specs/Verdicts.antt holds.
+-- The verdicts of start mean what RULES 9.1 says: each is given exactly where its row of specs/Verdicts.antt holds.
 use mathlib.Core.Path.{_≡_, refl, sym, _∙_, ap, subst}
 use mathlib.Core.Bool.{true, false}
 use mathlib.Core.List.{List}
@@ -20,6 +20,7 @@ use Rattle.format.specs.Contents.{nodesIn}
 use Rattle.image.specs.Calls.{imageFault}
 use Rattle.image.proofs.Faults.{then-fine, then-fault}
 use Rattle.image.proofs.Meaning.{either-means}
+use Rattle.messages.specs.Sizes.{maxList}
 use Rattle.messages.specs.Fresh.{sourceIn, targetIn}
 use Rattle.start.specs.Start.{strange, listFault, startFault}
 use Rattle.start.specs.Verdicts.{BothNodes, OfList, odd, over, unknown, fine, OfStart, of-image, of-list}
@@ -62,10 +63,10 @@ module _ (n : ℕ) (list : List ℕ) where
   list-row =
       bcase (eqb (length list % 2) 0)
       (λ t.
-      bcase (leb (length list) 512)
+      bcase (leb (length list) maxList)
       (λ s.
       let even : length list % 2 ≡ 0 = eqb-true _ _ t in
-      let short : length list ≤ 512 = leb-true _ _ s in
+      let short : length list ≤ maxList = leb-true _ _ s in
       let p : ℕ = least (length list / 2) (strange n list) in
       let before : (q : ℕ) → q < p → BothNodes n list q = λ q l. both-nodes q (least-before (length list / 2) (strange n list) q l) in
       bcase (below p (length list / 2))
@@ -79,11 +80,11 @@ module _ (n : ℕ) (list : List ℕ) where
       (λ s. let h = leb-false _ _ s in subst (OfList n list) (long-list n list h) (over h)))
       (λ t. let h = eqb-false _ _ t in subst (OfList n list) (odd-list n list h) (odd h))
 
-  -- "Given exactly when", of a message list
+  -- RULES 9.1: "given exactly when", of a message list
   pub list-means : (v : Verdict) → (listFault n list ≡ v) ↔ OfList n list v
   list-means v = (λ e. subst (OfList n list) e list-row, list-given)
 
--- "Given exactly when", of a start
+-- RULES 9.1: "given exactly when", of a start
 pub start-means : (b list : List ℕ) (v : Verdict) → (startFault b list ≡ v) ↔ OfStart b list v
 start-means b list v = (row (imageFault b) refl, given)
   where

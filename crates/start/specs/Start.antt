@@ -15,14 +15,15 @@ use Rattle.format.specs.Contents.{nodesIn}
 use Rattle.image.specs.Image.{cablingIn}
 use Rattle.image.specs.Calls.{andThen, imageFault}
 use Rattle.messages.specs.declared.Record.{Record}
+use Rattle.messages.specs.Sizes.{maxList}
 use Rattle.messages.specs.Fresh.{sourceIn, targetIn, begunOf}
 use Rattle.start.specs.declared.Started.{Started}
 
--- 11: "message list odd or over 512 bytes"
+-- 11, RULES 9.1: "the message list of odd length or over 512 bytes"
 unfoldable pub fits : List ℕ → Bool
-fits list = eqb (length list % 2) 0 & leb (length list) 512
+fits list = eqb (length list % 2) 0 & leb (length list) maxList
 
--- 10: "a node ≥ N in the list"
+-- 10, RULES 9.1: "a node ≥ N in the list"
 unfoldable pub strange : ℕ → List ℕ → ℕ → Bool
 strange n list p = leb n (sourceIn list p) or leb n (targetIn list p)
 
@@ -36,18 +37,18 @@ listFault n list =
           elim (below p (length list / 2)) [ true ↦ Fault (Unknown p) | false ↦ Fine ]
     ]
 
--- "an image (read's rules)", and then the list
+-- RULES 8.2: "an image (under read's rules)", and then the list
 abbrev pub startFault : List ℕ → List ℕ → Verdict
 startFault b list = andThen (imageFault b) (listFault (nodesIn b) list)
 
--- "a record, which it fills anew", over the labels and rows of a fabric: that of the image's cabling
+-- RULES 8.2: "a record, which it fills anew", over the labels and rows of a fabric: that of the image's cabling
 abbrev pub freshIn : Fabric → List ℕ → Record
 freshIn f list = begunOf (f .nodes) (f .labels) (f .free) (f .falling) list
 
 unfoldable pub freshOf : List ℕ → List ℕ → Record
 freshOf b list = freshIn (fabricOf (cablingIn b)) list
 
--- "buffers and record stay untouched"
+-- RULES 9.3: "Buffers and record stay as they were."
 unfoldable pub recordAfter : Verdict → Record → Record → Record
 recordAfter Fine old new = new
 recordAfter (Fault r) old new = old

@@ -5,6 +5,7 @@ ghost use lib.ListN.{length};
 ghost use Rattle.finite.specs.Search.{least};
 ghost use Rattle.start.specs.Start.{strange, listFault, freshIn, startOf};
 use fabric::Fabric;
+use messages::MAX_LIST;
 use messages::Record;
 use refusal::Refusal;
 use refusal::Verdict;
@@ -15,18 +16,15 @@ pub struct Started {
     pub record: Record,
 }
 
-// The bytes that the list of 256 messages has.
-const MAX_LIST: usize = 512;
-
 // Is an end of message p not a node?
 fn is_strange(n: usize, list: &[u8], p: usize) -> bool
     requires { ⌜ p < length (now list) / 2 ⌝ }
     ensures { λ r. ⌜ r ≡ strange n (now (list .entry)) p ⌝ }
 {
-    if n <= network::byte_at(list, 2 * p) {
+    if n <= slices::byte_at(list, 2 * p) {
         return true;
     }
-    n <= network::byte_at(list, 2 * p + 1)
+    n <= slices::byte_at(list, 2 * p + 1)
 }
 
 // The first message with an end that is not a node, the number of messages where there is none.
@@ -66,7 +64,7 @@ fn fresh(f: Fabric, list: &[u8]) -> Record
     let labels = f.labels;
     let free = f.free;
     let falling = f.falling;
-    machine::begun(f.nodes, labels, free, falling, list)
+    records::begun(f.nodes, labels, free, falling, list)
 }
 
 // Starts the machine afresh: 1 to 8 of the image, 11, 10.

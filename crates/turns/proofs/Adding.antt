@@ -8,10 +8,10 @@ use native.Mathlib.Omega.{arith}
 use Rattle.finite.specs.Sum.{sumTo, count}
 use Rattle.finite.specs.Sets.{has, setOf}
 use Rattle.finite.proofs.Sum.{sum-none, sum-more, count-bound}
+use Rattle.finite.proofs.Pairs.{chooseTwo}
 use Rattle.nodes.specs.Limits.{maxNodes}
 use Rattle.nodes.proofs.Words.{size-setOf}
 use Rattle.turns.specs.Turns.{allTurns}
-use Rattle.turns.proofs.Pairs.{chooseTwo}
 use Rattle.turns.proofs.Turns.{total-formula}
 
 pub record Adding (links : ℕ → ℕ → Bool) (sum v : ℕ) : Type 0 where

@@ -1,4 +1,3 @@
-pub mod Pairs
 pub mod Turns
 pub mod Adding
 pub mod Sift

@@ -7,15 +7,10 @@ use lib.Dec.{lit<}
 use Rattle.finite.specs.Truth.{_&_, _or_, non, same, below}
 use Rattle.finite.specs.Search.{least}
 use Rattle.finite.specs.Sets.{has, setOf, without}
-use Rattle.finite.proofs.Truth.{no-tf, iff, refute, both, and-l, and-r, true-and, and-false, or-false, non-true, true-non, same-eq, below-lt, below-le, lt-below, le-below}
+use Rattle.finite.proofs.Truth.{no-tf, iff, refute, both, and-l, and-r, true-and, and-false, or-false, non-true, true-non, same-eq, below-lt, below-le, lt-below, le-below, false-or}
 use Rattle.finite.proofs.Sets.{has-0, has-setOf, setOf-cong, set-ext}
 use Rattle.nodes.specs.Limits.{maxNodes}
 use Rattle.nodes.proofs.Words.{lowest-in, word-lt}
-
-pub false-or : (a : Bool) → a or false ≡ a
-unfolding _or_
-false-or true = refl
-false-or false = refl
 
 -- the set of u alone where it passes, and the empty set where it fails, is the set of what is u and passes
 pub one-passes : (p : ℕ → Bool) (u : ℕ) → p u ≡ true → setOf maxNodes (same u) ≡ setOf maxNodes (λ a. same u a & p a)

@@ -1,4 +1,4 @@
--- How many turns a network has, for any links and labels. 01: "The total T is the sum over nodes of d(d-1)/2". W is the same sum over the neighbours with higher
+-- How many turns a network has, for any links and labels. RULES 3.3: "the sum over all nodes of d(d-1)/2". W is the same sum over the neighbours with higher
 -- labels, and the permitted turns are the others.
 use mathlib.Core.Path.{_≡_, refl, sym, _∙_}
 use mathlib.Core.Bool.{Bool, true, false}
@@ -7,9 +7,9 @@ use Rattle.finite.specs.Truth.{_&_, non}
 use Rattle.finite.specs.Sum.{sumTo, when, count}
 use Rattle.finite.proofs.Truth.{true-and, false-and}
 use Rattle.finite.proofs.Sum.{sum-add}
+use Rattle.finite.proofs.Pairs.{chooseTwo, pairs-formula}
 use Rattle.lawful.specs.Turn.{rises, prohibited}
 use Rattle.turns.specs.Turns.{turnsThat, allTurns, prohibitedTurns}
-use Rattle.turns.proofs.Pairs.{chooseTwo, pairs-formula}
 
 pub total-formula : (n : ℕ) (edge : ℕ → ℕ → Bool) → allTurns n edge ≡ sumTo n (λ b. chooseTwo (count n (edge b)))
 unfolding turnsThat

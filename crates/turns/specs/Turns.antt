@@ -9,7 +9,7 @@ use Rattle.lawful.specs.Turn.{prohibited}
 unfoldable pub turnsThat : ℕ → (ℕ → ℕ → Bool) → (ℕ → ℕ → ℕ → Bool) → ℕ
 turnsThat n edge test = sumTo n (λ b. sumTo n (λ a. count n (λ c. below a c & edge b a & edge b c & test a b c)))
 
--- 01: "The total T" is the number of turns, "W counts prohibited turns"
+-- RULES 3.3: "T is the number of turns"; RULES 4.4: "W is the number of prohibited turns."
 abbrev pub allTurns : ℕ → (ℕ → ℕ → Bool) → ℕ
 allTurns n edge = turnsThat n edge (λ a b c. true)
 

@@ -5,13 +5,13 @@ use Prim.Native.Nat.{ℕ}
 use lib.ListN.{length}
 use Rattle.by_hand.specs.Networks.{Worked}
 
-abbrev pub counted : List ℕ → List ℕ
-counted l = length l ∷ l
+abbrev pub withLength : List ℕ → List ℕ
+withLength l = length l ∷ l
 
 abbrev pub bytesOf : Worked → List ℕ
 bytesOf e =
-    e .cabling .nodes ∷ counted (e .cabling .pairs) ++ e .labels ++ (e .turns ∷ e .prohibited ∷ e .first ∷ counted (e .free)) ++ counted (e .falling)
-    ++ counted (e .links-image) ++ counted (e .full-image) ++ counted (e .messages) ++ (e .moves ∷ e .look ∷ [])
+    e .cabling .nodes ∷ withLength (e .cabling .pairs) ++ e .labels ++ (e .turns ∷ e .prohibited ∷ e .first ∷ withLength (e .free)) ++ withLength (e .falling)
+    ++ withLength (e .links-image) ++ withLength (e .full-image) ++ withLength (e .messages) ++ (e .moves ∷ e .look ∷ [])
 
 abbrev pub flat : List Worked → List ℕ
 flat [] = []

@@ -488,6 +488,6 @@ fn table() -> [u8; 472]
 
 fn main() {
     let all = table();
-    found::networks::tell_all(&all);
-    found::cases::tell_all();
+    findings::networks::tell_all(&all);
+    findings::cases::tell_all();
 }

@@ -1,15 +1,16 @@
 -- `bench::builds` is safe and ends: each turn leaves one repeat less.
 use mathlib.Core.Path.{_≡_, sym, _∙_}
 use mathlib.Core.List.{List, _++_}
-use Prim.Native.Nat.{ℕ, _+_, _-_, _%_, _≤_}
+use Prim.Native.Nat.{ℕ, suc, _+_, _-_, _%_, _≤_}
 use lib.ListN.{length, take, drop, length-append, length-drop, length-replicate}
 use lib.Seq.{length-take-le}
 use native.Mathlib.Omega.{arith}
+use Rattle.image.specs.Longest.{longestImage}
 use Rattle.bench.proofs.builds.Statement.{statement}
 use Rattle.bench.proofs.builds.Tie as tie
 
 -- what is lent fits the buffer
-room-there : (i n : ℕ) → n ≡ 9309 → 9308 + i % 2 ≤ n
+room-there : (i n : ℕ) → n ≡ suc longestImage → longestImage + i % 2 ≤ n
 room-there i n h = omega arith
 
 -- a part that comes back as long as it was lent leaves the whole as long as it was
@@ -21,13 +22,13 @@ kept k a b h l =
     omega arith
 
 abbrev Inv-loop : tie.InvT-loop
-Inv-loop links repeats buffer₀ last₀ i₀ buffer last i = (i ≤ repeats) × (length buffer ≡ 9309)
+Inv-loop links repeats buffer₀ last₀ i₀ buffer last i = (i ≤ repeats) × (length buffer ≡ suc longestImage)
 
 abbrev μ-loop : tie.MeasureT-loop
 μ-loop links repeats buffer₀ last₀ i₀ buffer last i = repeats - i
 
 loop-holds : tie.Need-loop-holds Inv-loop μ-loop
-loop-holds c = (omega arith, length-replicate {A = ℕ} 9309 0)
+loop-holds c = (omega arith, length-replicate {A = ℕ} (suc longestImage) 0)
 
 slice-aggregate-build : tie.Need-slice-aggregate-build Inv-loop μ-loop
 slice-aggregate-build c = sym (length-take-le _ _ (room-there _ _ (c .before .before .loop .inv .1)))

@@ -1,5 +1,5 @@
 -- `built::output` meets its contract: the image that was built, or the line of the refusal.
-use Rattle.written.proofs.Placed.{no-room-for}
+use Rattle.results.proofs.Placed.{no-room-for}
 use Rattle.built.proofs.Cases.{built-bytes, built-refused}
 use borrow.Author.Needs.{needs}
 use Rattle.built.proofs.output.Statement.{statement}

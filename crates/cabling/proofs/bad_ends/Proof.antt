@@ -3,8 +3,8 @@ use mathlib.Core.Path.{sym}
 use mathlib.Core.Logic.{inl, inr}
 use native.Mathlib.Omega.{arith}
 use borrow.Author.Needs.{needs}
+use Rattle.finite.proofs.Decide.{pass, agree, decide-leb}
 use Rattle.cabling.specs.Cabling.{cabled}
-use Rattle.cabling.proofs.Decide.{pass, agree, decide-leb}
 use Rattle.cabling.proofs.Tests.{decide-ends}
 use Rattle.cabling.proofs.bad_ends.Statement.{statement}
 use Rattle.cabling.proofs.bad_ends.Tie as tie

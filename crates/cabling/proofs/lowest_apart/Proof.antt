@@ -3,10 +3,11 @@ use mathlib.Core.Path.{_≡_}
 use borrow.Author.Needs.{needs}
 use Rattle.finite.specs.Truth.{_&_, below}
 use Rattle.finite.specs.Search.{least}
+use Rattle.finite.proofs.Search.{least-found-among, least-none-among}
 use Rattle.nodes.specs.Limits.{maxNodes}
 use Rattle.network.specs.Table.{edgeOf}
 use Rattle.cabling.specs.Faults.{unreached}
-use Rattle.cabling.proofs.Apart.{unreached-past, apart-word, least-found-among, least-none-among}
+use Rattle.cabling.proofs.Apart.{unreached-past, apart-word}
 use Rattle.cabling.proofs.lowest_apart.Statement.{statement}
 use Rattle.cabling.proofs.lowest_apart.Tie as tie
 

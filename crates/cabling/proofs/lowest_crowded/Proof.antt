@@ -4,9 +4,9 @@ use Prim.Native.Nat.{ℕ, _-_, _≤_, _<_}
 use native.Mathlib.Omega.{arith}
 use borrow.Author.Count.{below-none, below-more}
 use Rattle.finite.specs.Sum.{count}
+use Rattle.finite.proofs.Decide.{least-is, least-none}
 use Rattle.nodes.specs.Limits.{maxNodes, maxDegree}
 use Rattle.network.specs.Table.{edgeOf}
-use Rattle.cabling.proofs.Decide.{least-is, least-none}
 use Rattle.cabling.proofs.Tests.{decide-crowded}
 use Rattle.cabling.proofs.lowest_crowded.Statement.{statement}
 use Rattle.cabling.proofs.lowest_crowded.Tie as tie

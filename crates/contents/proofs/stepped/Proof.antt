@@ -49,7 +49,7 @@ use denote.Exit.{yes}
 use Rattle.format.specs.declared.Entry.{Entry}
 use Rattle.format.proofs.Entry as N
 use Rattle.format.proofs.Entry.Laws as N′
-use Rattle.contents.specs.Walking.{standing, foundAt, stepOf}
+use Rattle.contents.specs.Walking.{standing, foundAt, stepFrom}
 use Rattle.contents.specs.declared.Reader.{Reader}
 use Rattle.contents.proofs.Going.{going}
 use Rattle.contents.proofs.Meet.{Toks, Met, Back, met, parted}
@@ -161,8 +161,8 @@ module _ {M : Type 1} (𝓤 : URA M) (H : Heap 𝓤) (A : Atoms 𝓤) (W : Given
         calls-at ! fm (StepC 𝓤 H A at-mem run) known (to l₃ ν δ) (and-then ! (load ! (from ! (stop !)) (look ! 7 refl)) (no-more !)) (λ v.
         use1 W (later (some (λ (a : Entry). (Met 𝓤 κ q ν ⊛ ‵ (N.the-row .own a (v ∷ []))) ⊛ raw (ensured 𝓤 H A step.ended (step.clauses 𝓤 H A at-mem run) (ν ∷ κ, (κ, tt)) (lent l₃ δ, tt) tt a)))) (id⊢ 𝓤 _) $ await ! tt $ pick ! (λ a.
         -- what `step` ensures, at some last reader
-        split ! $ move ! (1 ∷ []) $ use1 W (some (λ (last : Reader × Unit {0}). ‵ (lasts step.ended (ν ∷ κ, (κ, tt)) (lent l₃ δ, tt) last) ⊛ raw (fact 𝓤 ((a, last .0) ≡ stepOf h)))) (id⊢ 𝓤 _) $ pick ! (λ last.
-        split ! $ move ! (1 ∷ []) $ heard ! ((a, last .0) ≡ stepOf h) (λ e. fsplit ! $
+        split ! $ move ! (1 ∷ []) $ use1 W (some (λ (last : Reader × Unit {0}). ‵ (lasts step.ended (ν ∷ κ, (κ, tt)) (lent l₃ δ, tt) last) ⊛ raw (fact 𝓤 ((a, last .0) ≡ stepFrom h)))) (id⊢ 𝓤 _) $ pick ! (λ last.
+        split ! $ move ! (1 ∷ []) $ heard ! ((a, last .0) ≡ stepFrom h) (λ e. fsplit ! $
         move ! (2 ∷ []) $ split ! $ move ! (1 ∷ []) $ peeks ! N.the-row (Is N.the-row) (shows 𝓤 H A N.the-row) a (v ∷ []) (λ is.
         land ! (from ! (stop !)) (init ! 12 refl (EL.lawful N.the-type N′.the-laws 𝓤 H A W tt .typed a _ is .0)) $
         rewrite ! 12 (λ (u : Val). ‵ (fat fullShare N′.mir l₄ 0 u)) (ap only (EL.tells N.the-type N′.the-laws a _ is)) refl $

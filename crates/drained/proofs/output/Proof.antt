@@ -4,7 +4,7 @@ use Prim.Native.Nat.{_+_, _≤_}
 use native.Mathlib.Omega.{arith}
 use lib.ListN.{length}
 use denote.Ref.{now}
-use Rattle.written.proofs.Placed.{no-room-for}
+use Rattle.results.proofs.Placed.{no-room-for}
 use Rattle.draining.specs.Drained.{drainOf}
 use Rattle.draining.proofs.Answers.{drain-verdict, drain-record}
 use Rattle.drained.specs.Drains.{imageEnd, imageIn, seedIn, listIn}

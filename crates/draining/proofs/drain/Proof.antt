@@ -13,7 +13,7 @@ use Rattle.machine.specs.InPlace.{packed}
 use Rattle.start.specs.Start.{startFault}
 use Rattle.draining.specs.Drained.{sumOf}
 use Rattle.draining.proofs.Answers.{started-refused, started-fine, started-fresh, drained-is}
-use Rattle.draining.proofs.Running.{Running, running-fresh, running-more, running-less, running-all, running-marks, running-free}
+use Rattle.draining.proofs.Running.{Running, running-fresh, running-more, running-less, running-all, running-marks, running-turn}
 use borrow.Author.Needs.{needs}
 use Rattle.draining.proofs.drain.Statement.{statement}
 use Rattle.draining.proofs.drain.Tie as tie
@@ -58,22 +58,19 @@ loop-holds c =
 marks-size : tie.Need-slice-aggregate-all-delivered-in Inv-loop μ-loop
 marks-size c = let l = c .before in sym (running-marks _ _ (fine-at (told-of l)) (l .loop .inv .0))
 
-turn-in-requires : tie.Need-turn-in-requires Inv-loop μ-loop
-turn-in-requires c κs = let l = test-of c .before .before .before in running-free _ _ (fine-at (told-of l)) (l .loop .inv .0) _ (l .loop .inv .1)
-
 loop-less : tie.Need-loop-less Inv-loop μ-loop
 unfolding allDelivered isDelivered
 loop-less c =
     let t = test-of (c .before) in
     let l = t .before .before .before in
-    running-less _ _ (fine-at (told-of l)) (l .loop .inv .0) (c .turn-in .ensures) (sym (t .before .all-delivered-in .ensures) ∙ undelivered t)
+    running-less _ _ (fine-at (told-of l)) (l .loop .inv .0) (c .turn-in .ensures ∙ running-turn _ _ (fine-at (told-of l)) (l .loop .inv .0) _ (l .loop .inv .1)) (sym (t .before .all-delivered-in .ensures) ∙ undelivered t)
 
 loop-again : tie.Need-loop-again Inv-loop μ-loop
 unfolding allDelivered isDelivered
 loop-again c =
     let t = test-of (c .before) in
     let l = t .before .before .before in
-    (running-more _ _ (fine-at (told-of l)) (l .loop .inv .0) (c .turn-in .ensures) (sym (t .before .all-delivered-in .ensures) ∙ undelivered t), l .loop .inv .1)
+    (running-more _ _ (fine-at (told-of l)) (l .loop .inv .0) (c .turn-in .ensures ∙ running-turn _ _ (fine-at (told-of l)) (l .loop .inv .0) _ (l .loop .inv .1)) (sym (t .before .all-delivered-in .ensures) ∙ undelivered t), l .loop .inv .1)
 
 returns-2 : tie.Need-returns-2 Inv-loop μ-loop
 unfolding allDelivered isDelivered
@@ -97,7 +94,7 @@ drain-spec =
     loop-holds
     marks-size
     (λ c κs. search needs)
-    turn-in-requires
+    (λ c κs. tt)
     loop-less
     loop-again
     returns-2)

@@ -5,7 +5,7 @@ use native.Mathlib.Nat.{le-refl}
 use native.Mathlib.Omega.{arith}
 use borrow.Author.Needs.{needs}
 use denote.Ref.{now}
-use Rattle.format.proofs.Slices.{part-none, part-rest}
+use Rattle.finite.proofs.Slices.{part-none, part-rest}
 use Rattle.format.proofs.part.Statement.{statement}
 use Rattle.format.proofs.part.Tie as tie
 

@@ -5,6 +5,7 @@ use native.Mathlib.Nat.{le-trans, le-of-eq, min-le-right}
 use native.Mathlib.Omega.{arith}
 use lib.ListN.{length}
 use Rattle.nodes.specs.Limits.{maxNodes}
+use Rattle.nodes.specs.Members.{members}
 use Rattle.network.specs.Table.{edgeOf}
 use Rattle.network.proofs.Table.{tableFrom-length}
 use Rattle.rule.specs.Labels.{labelled, labelsOf}
@@ -13,7 +14,7 @@ use Rattle.labels.proofs.labels.Statement.{statement}
 use Rattle.labels.proofs.labels.Tie as tie
 
 abbrev Inv-loop : tie.InvT-loop
-Inv-loop t n m w₀ rest₀ out₀ k₀ w rest out k = Giving t m k w rest out × (m ≡ min n maxNodes) × (k ≤ m)
+Inv-loop t n m w₀ rest₀ out₀ k₀ w rest out k = Giving t m k (members w) rest out × (m ≡ min n maxNodes) × (k ≤ m)
 
 abbrev μ-loop : tie.MeasureT-loop
 μ-loop t n m w₀ rest₀ out₀ k₀ w rest out k = m - k

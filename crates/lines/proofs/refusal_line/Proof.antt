@@ -2,7 +2,7 @@
 use native.Mathlib.Omega.{arith}
 use borrow.Author.Needs.{needs}
 use Rattle.laid.proofs.Pieces.{lays-as}
-use Rattle.written.proofs.Placed.{no-room-for, room-for}
+use Rattle.results.proofs.Placed.{no-room-for, room-for}
 use Rattle.lines.specs.Lines.{refusedWord, refusalLine}
 use Rattle.lines.proofs.Whole.{lays-line}
 use Rattle.lines.proofs.refusal_line.Statement.{statement}

@@ -40,36 +40,37 @@ returns-4 c =
     let o = c .before in
     let w = o .before .before in
     let n = w .before in
-    let t = n .before .before .before in
+    let k = n .before in
+    let t = k .before .before in
     let g = t .before in
     let h = g .before in
     let d = h .before .before in
     let l = d .before .before .before in
     let f = l .before .few .ensures in
     blocked-in _ _ _ (let b = l .if1 .left in omega arith) (sym (d .before .marked .ensures) ∙ d .if2 .left) (h .byte .ensures) (g .byte2 .ensures)
-    (t .if3 .left) (n .next-in .ensures) (w .channel .ensures) (o .held .ensures) (c .if4 .taken)
+    (t .if3 .left) (k .byte3 .ensures) (n .next-in .ensures) (w .channel .ensures) (o .held .ensures) (c .if4 .taken)
 
 returns-5 : tie.Need-returns-5
 unfolding isDelivered
 returns-5 c =
-    let k = c .before .before .before in
-    let a = k .before in
-    let s = a .before .before in
-    let p = s .before .before .before .before in
+    let e = c .before .before .before in
+    let a = e .before in
+    let p = a .before .before .before .before in
     let q = p .before .before .before .before in
     let z = q .before .before in
     let o = z .before in
     let w = o .before .before in
     let n = w .before in
-    let t = n .before .before .before in
+    let k = n .before in
+    let t = k .before .before in
     let g = t .before in
     let h = g .before in
     let d = h .before .before in
     let l = d .before .before .before in
     let f = l .before .few .ensures in
     moved-in _ _ _ (let b = l .if1 .left in omega arith) (sym (d .before .marked .ensures) ∙ d .if2 .left) (h .byte .ensures) (g .byte2 .ensures)
-    (t .if3 .left) (n .next-in .ensures) (w .channel .ensures) (o .held .ensures) (z .if4 .left) (c .count2 .ensures) (s .byte3 .ensures) (a .class-after .ensures)
-    (p .put2 .ensures) (k .put3 .ensures) (q .hold .ensures)
+    (t .if3 .left) (k .byte3 .ensures) (n .next-in .ensures) (w .channel .ensures) (o .held .ensures) (z .if4 .left) (c .count2 .ensures)
+    (a .class-after .ensures) (p .put2 .ensures) (e .put3 .ensures) (q .hold .ensures)
 
 pub step-in-spec : {M : Type 1} → statement M
 step-in-spec =
@@ -94,6 +95,7 @@ step-in-spec =
     (λ c κs. tt)
     (λ c κs. tt)
     (λ c κs. tt)
+    (λ c κs. tt)
     (λ c. search needs)
     sub-by
     (λ c. search needs)
@@ -103,7 +105,6 @@ step-in-spec =
     returns-4
     (λ c. search needs)
     (λ c. search needs)
-    (λ c κs. tt)
     (λ c κs. tt)
     (λ c κs. tt)
     (λ c κs. tt)

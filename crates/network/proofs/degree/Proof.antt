@@ -11,7 +11,7 @@ use Rattle.network.proofs.degree.Tie as tie
 
 returns : tie.Need-returns
 unfolding edgeOf
-returns c = c .size .ensures ∙ ap (λ (w : ℕ). count maxNodes (has w)) (c .before .row .ensures)
+returns c = c .size .ensures ∙ ap (λ (w : ℕ). count maxNodes (has w)) (c .before .neighbours .ensures)
 
 pub degree-spec : {M : Type 1} → statement M
 degree-spec = tie.close (tie.spec (λ c κs. search needs) (λ c κs. search needs) returns)

@@ -16,12 +16,13 @@ use Rattle.network.proofs.joined.Tie as tie
 returns : tie.Need-returns
 unfolding joined
 returns c =
-    let f = c .before in
+    let d = c .before in
+    let f = d .before in
     let o = f .before in
-    ap (λ (d : ℕ). eqb d 0) (c .difference .ensures) ∙ covers-none maxNodes _ _
+    c .is-empty .ensures ∙ ap (λ (x : ℕ). eqb x 0) (d .difference .ensures) ∙ covers-none maxNodes _ _
     ∙ ap (covers maxNodes _) (f .flood .ensures
     ∙ reach-cong maxNodes _ _ (λ a b k l. refl) _ _ (λ v l.
     ap (λ (w : ℕ). has w v) (o .one .ensures) ∙ has-setOf maxNodes _ v l ∙ ap (λ (x : ℕ). same x v) (o .before .lowest .ensures)))
 
 pub joined-spec : {M : Type 1} → statement M
-joined-spec = tie.close (tie.spec (λ c κs. search needs) (λ c κs. search needs) (λ c κs. search needs) (λ c κs. search needs) returns)
+joined-spec = tie.close (tie.spec (λ c κs. search needs) (λ c κs. search needs) (λ c κs. search needs) (λ c κs. search needs) (λ c κs. search needs) returns)

@@ -9,7 +9,7 @@ returns : tie.Need-returns
 returns c = c .common .ensures ∙ kept-some _ _ _ (sym (c .before .before .has .ensures) ∙ c .before .if1 .taken)
 
 returns-2 : tie.Need-returns-2
-returns-2 c = kept-none _ _ _ (sym (c .before .has .ensures) ∙ c .if1 .left)
+returns-2 c = c .none .ensures ∙ kept-none _ _ _ (sym (c .before .before .has .ensures) ∙ c .before .if1 .left)
 
 pub kept-row-spec : {M : Type 1} → statement M
-kept-row-spec = tie.close (tie.spec (λ c κs. search needs) (λ c κs. search needs) returns returns-2)
+kept-row-spec = tie.close (tie.spec (λ c κs. search needs) (λ c κs. search needs) (λ c κs. search needs) returns returns-2)

@@ -18,12 +18,16 @@ returns-3 c = (link-none _ _ _ (λ x y k l j. joins-ends _ _ x y j (λ e f. let 
 
 returns-4 : tie.Need-returns-4
 returns-4 c =
-    let w = c .before .before in
-    let d = w .before .before .before .before in
+    let n = c .before in
+    let w = n .before .before in
+    let m = w .before in
+    let d = m .before .before .before .before in
     let start = d .before .before in
-    let a = start .args in (
-      link-one (now (a .t)) (a .a) (a .b) (start .pre) (d .if1 .left) (omega arith) (omega arith) (w .with .ensures) (c .with2 .ensures),
-      link-words (now (a .t)) (a .a) (a .b) (start .pre) (d .if1 .left) (omega arith) (omega arith) (w .with .ensures) (c .with2 .ensures),
+    let a = start .args in
+    let first = rw (m .neighbours .ensures) at (w .with .ensures) in
+    let second = rw (n .neighbours2 .ensures) at (c .with2 .ensures) in (
+      link-one (now (a .t)) (a .a) (a .b) (start .pre) (d .if1 .left) (omega arith) (omega arith) first second,
+      link-words (now (a .t)) (a .a) (a .b) (start .pre) (d .if1 .left) (omega arith) (omega arith) first second,
     )
 
 pub link-spec : {M : Type 1} → statement M
@@ -33,13 +37,11 @@ link-spec =
     returns
     returns-2
     returns-3
-    (λ c. search needs)
-    (λ c. search needs)
+    (λ c κs. search needs)
     (λ c κs. search needs)
     (λ c. search needs)
     (λ c. search needs)
-    (λ c. search needs)
-    (λ c. simp length-set (omega arith))
+    (λ c κs. search needs)
     (λ c κs. search needs)
     (λ c. search needs)
     (λ c. simp length-set (omega arith))

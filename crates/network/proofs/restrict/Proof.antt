@@ -5,13 +5,14 @@ use native.Mathlib.Omega.{arith}
 use Rattle.finite.specs.Sets.{has, setOf}
 use Rattle.graph.specs.Network.{among}
 use Rattle.nodes.specs.Limits.{maxNodes}
+use Rattle.nodes.specs.Members.{members}
 use Rattle.network.specs.Table.{edgeOf, tableFrom}
 use Rattle.finite.proofs.Filling.{Filling, filling-none, filling-more, filling-all}
 use Rattle.network.proofs.restrict.Statement.{statement}
 use Rattle.network.proofs.restrict.Tie as tie
 
 abbrev Inv-loop : tie.InvT-loop
-Inv-loop t w rest₀ u₀ rest u = Filling (λ a. setOf maxNodes (among (has w) (edgeOf t) a)) rest₀ rest u × (u ≤ maxNodes)
+Inv-loop t w rest₀ u₀ rest u = Filling (λ a. setOf maxNodes (among (has (members w)) (edgeOf t) a)) rest₀ rest u × (u ≤ maxNodes)
 
 abbrev μ-loop : tie.MeasureT-loop
 μ-loop t w rest₀ u₀ rest u = maxNodes - u
@@ -23,9 +24,10 @@ loop-again : tie.Need-loop-again Inv-loop μ-loop
 unfolding among edgeOf
 loop-again c =
     let r = c .before in
-    let l = r .before .before in (
+    let l = r .before .before in
+    let w = members (l .before .before .args .w) in (
       filling-more _ (l .loop .inv .0) (omega arith)
-          (c .kept-row .ensures ∙ ap (λ (x : ℕ). setOf maxNodes (among (has (l .before .before .args .w)) (λ a b. has x b) (l .loop .u))) (r .row .ensures)),
+          (c .kept-row .ensures ∙ ap (λ (x : ℕ). setOf maxNodes (among (has w) (λ a b. has x b) (l .loop .u))) (r .neighbours .ensures)),
       omega arith,
     )
 

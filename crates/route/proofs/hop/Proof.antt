@@ -3,16 +3,17 @@ use Prim.Native.Nat.{_+_, _*_, _≤_}
 use native.Mathlib.Nat.{mul-le-mul}
 use native.Mathlib.Omega.{arith}
 use Rattle.finite.specs.Truth.{below}
+use Rattle.nodes.specs.Limits.{maxNodes}
 use Rattle.route.proofs.Following.{hop-free, hop-falling}
 use borrow.Author.Needs.{needs}
 use Rattle.route.proofs.hop.Statement.{statement}
 use Rattle.route.proofs.hop.Tie as tie
 
-row-small : (c : tie.After-struct-known) → let a = c .before .before .before .before .args in a .p .node * a .n ≤ 255 * 64
+row-small : (c : tie.After-struct-known) → let a = c .before .before .before .before .args in a .p .node * a .n ≤ 255 * maxNodes
 row-small c =
     let s = c .before .before .before .before in
     let h = s .pre in
-    mul-le-mul {n₁ = s .args .p .node} {m₁ = s .args .n} {n₂ = 255} {m₂ = 64} (omega arith) (omega arith)
+    mul-le-mul {n₁ = s .args .p .node} {m₁ = s .args .n} {n₂ = 255} {m₂ = maxNodes} (omega arith) (omega arith)
 
 mul-at : tie.Need-mul-at
 mul-at c = let m = row-small c in omega arith

@@ -4,7 +4,7 @@ use mathlib.Core.Logic.{inl, inr}
 use native.Mathlib.Omega.{arith}
 use lib.ListN.{length-take}
 use denote.Ref.{now}
-use Rattle.written.proofs.Placed.{fault-writes, fine-writes}
+use Rattle.results.proofs.Placed.{fault-writes, fine-writes}
 use Rattle.fabric.proofs.Making.{made-verdict}
 use Rattle.image.proofs.Faults.{then-fault}
 use Rattle.laid.proofs.Pieces.{lays-front}

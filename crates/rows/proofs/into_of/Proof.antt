@@ -25,7 +25,7 @@ loop-again : tie.Need-loop-again Inv-loop μ-loop
 loop-again c =
     let e = c .before in
     let l = e .before .before .before .before in
-    (gathered-more _ _ (l .loop .inv .0) (e .before .row .ensures) (e .enter .ensures), omega arith)
+    (gathered-more _ _ (l .loop .inv .0) (e .before .neighbours .ensures) (e .enter .ensures), omega arith)
 
 pub into-of-spec : {M : Type 1} → statement M
 into-of-spec =

@@ -5,6 +5,8 @@ use Prim.Native.Nat.{_-_, _≤_, _<_}
 use native.Mathlib.Omega.{arith}
 use borrow.Author.Needs.{needs}
 use Rattle.nodes.specs.Limits.{maxNodes}
+use Rattle.nodes.specs.Members.{members}
+use Rattle.nodes.proofs.Members.{is-empty}
 use Rattle.rows.specs.Steps.{rounds}
 use Rattle.rows.proofs.Rounds.{Searching, searching-none, searching-more, searching-still}
 use Rattle.rows.proofs.Frontier.{Frontier, frontier-none, frontier-more, asking}
@@ -13,7 +15,7 @@ use Rattle.rows.proofs.search_for.Tie as tie
 
 abbrev Inv-loop : tie.InvT-loop
 Inv-loop up down over under t s₀ new-free₀ new-falling₀ k₀ s new-free new-falling k =
-    Searching t up down s k × (k ≤ rounds) × Frontier up down s new-free new-falling
+    Searching t up down s k × (k ≤ rounds) × Frontier up down s (members new-free) (members new-falling)
 
 abbrev μ-loop : tie.MeasureT-loop
 μ-loop up down over under t s₀ new-free₀ new-falling₀ k₀ s new-free new-falling k = rounds - k
@@ -35,15 +37,16 @@ low l = l .before .before .before .before .before .before .before .before .pre .
 
 returns : tie.Need-returns Inv-loop μ-loop
 returns c =
-    let d = c .before .before in
+    let e = c .before in
+    let d = e .before .before in
     let r = d .before .before .before .before .before .before in
     let l = r .before .before .before .before in
     searching-still (low l) _ (l .loop .inv .0) (l .loop .inv .1) (r .round .ensures) (d .before .difference .ensures) (d .difference2 .ensures)
-    (c .before .union .ensures) (c .if1 .taken)
+    (e .before .union .ensures) (is-empty (e .is-empty .ensures) (c .if1 .taken))
 
 loop-again : tie.Need-loop-again Inv-loop μ-loop
 loop-again c =
-    let d = c .before .before in
+    let d = c .before .before .before in
     let r = d .before .before .before .before .before .before in
     let l = r .before .before .before .before in (
       searching-more (low l) _ (l .loop .inv .0) (r .round .ensures),
@@ -70,6 +73,7 @@ search-for-spec =
     (λ c κs. tt)
     (λ c κs. tt)
     round-requires
+    (λ c κs. tt)
     (λ c κs. tt)
     (λ c κs. tt)
     (λ c κs. tt)

@@ -1,6 +1,6 @@
 -- `shown::output` meets its contract: the line of the refusal, or the report on the fabric of an image that is fine.
 use denote.Ref.{now}
-use Rattle.written.proofs.Placed.{no-room-for}
+use Rattle.results.proofs.Placed.{no-room-for}
 use Rattle.shown.proofs.Cases.{Opened, opened, shown-refused, shown-report}
 use borrow.Author.Needs.{needs}
 use Rattle.shown.proofs.output.Statement.{statement}

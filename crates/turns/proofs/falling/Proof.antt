@@ -7,7 +7,7 @@ use Rattle.turns.proofs.falling.Tie as tie
 
 returns : tie.Need-returns
 unfolding falls edgeOf
-returns c = rw (c .lower .ensures, c .before .byte-at .ensures, c .before .before .row .ensures)
+returns c = rw (c .lower .ensures, c .before .byte-at .ensures, c .before .before .neighbours .ensures)
 
 pub falling-spec : {M : Type 1} → statement M
 falling-spec = tie.close (tie.spec (λ c κs. search needs) (λ c κs. search needs) (λ c κs. search needs) returns)

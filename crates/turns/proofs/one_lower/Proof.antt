@@ -11,7 +11,7 @@ returns : tie.Need-returns
 returns c = c .one .ensures ∙ one-passes _ _ (lt-below (omega arith))
 
 returns-2 : tie.Need-returns-2
-returns-2 c = one-fails _ _ (le-below (omega arith))
+returns-2 c = c .none .ensures ∙ one-fails _ _ (le-below (omega arith))
 
 pub one-lower-spec : {M : Type 1} → statement M
-one-lower-spec = tie.close (tie.spec (λ c κs. search needs) (λ c κs. search needs) returns returns-2)
+one-lower-spec = tie.close (tie.spec (λ c κs. search needs) (λ c κs. search needs) (λ c κs. search needs) returns returns-2)

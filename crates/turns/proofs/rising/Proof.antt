@@ -15,7 +15,7 @@ add-lower c = omega (arith, c .before .before .shared-slice-known2 .given (c .be
 returns : tie.Need-returns
 unfolding rises edgeOf
 returns c =
-    rw (c .difference .ensures, c .before .lower .ensures, c .before .before .byte-at .ensures, c .before .before .before .row .ensures)
+    rw (c .difference .ensures, c .before .lower .ensures, c .before .before .byte-at .ensures, c .before .before .before .neighbours .ensures)
     (setOf-cong maxNodes _ _ (λ u l. simp (has-setOf maxNodes) (not-lower _ _ _)))
 
 pub rising-spec : {M : Type 1} → statement M

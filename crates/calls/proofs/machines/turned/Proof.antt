@@ -1,15 +1,17 @@
 -- `calls::turned` is safe and ends.
-use Prim.Native.Nat.{_≤_, _-_}
+use Prim.Native.Nat.{_+_, _*_, _-_, _≤_}
 use native.Mathlib.Omega.{arith}
 use borrow.Author.Needs.{needs}
+use Rattle.nodes.specs.Limits.{maxNodes}
+use Rattle.messages.specs.Sizes.{maxMessages}
 use Rattle.calls.proofs.machines.turned.Statement.{statement}
 use Rattle.calls.proofs.machines.turned.Tie as tie
 
 abbrev Inv-loop : tie.InvT-loop
-Inv-loop seed last₀ next₀ k₀ t8 last next k = k ≤ 16640
+Inv-loop seed last₀ next₀ k₀ t8 last next k = k ≤ maxMessages * (maxNodes + 1)
 
 abbrev μ-loop : tie.MeasureT-loop
-μ-loop seed last₀ next₀ k₀ t8 last next k = 16640 - k
+μ-loop seed last₀ next₀ k₀ t8 last next k = maxMessages * (maxNodes + 1) - k
 
 pub turned-spec : {M : Type 1} → statement M
 turned-spec =

@@ -1,0 +1,144 @@
+// An entry of the table, as the crate `worked` lays it out, and what is found of it: of its links image Show's lines, and where it has messages, Drain's line for
+// seed 0 and the message that is looked at first; the bytes of both images and the falling rows, where the entry has them.
+ghost use Prim.Native.Nat.{_+_, _≤_, _<_};
+use crate::inputs;
+use crate::inputs::ROOM;
+use results::Written;
+
+// An entry: its nodes, the places of its lists, and the place behind it.
+struct Entry {
+    nodes: usize,
+    pairs: usize,
+    falling: usize,
+    links: usize,
+    full: usize,
+    messages: usize,
+    next: usize,
+}
+
+fn byte(table: &[u8], at: usize) -> u8 {
+    if at < table.len() { table[at] } else { 0 }
+}
+
+// The place behind the list whose length stands at place `at`.
+fn behind(table: &[u8], at: usize) -> usize
+    requires { ⌜ at ≤ 4096 ⌝ }
+    ensures { λ r. ⌜ (at < r) × (r ≤ at + 256) ⌝ }
+{
+    at + 1 + byte(table, at) as usize
+}
+
+// The list whose length stands at place `at`.
+fn list(table: &[u8], at: usize) -> &[u8] {
+    if table.len() <= at {
+        return &table[..0];
+    }
+    let from = at + 1;
+    let size = byte(table, at) as usize;
+    if table.len() - from < size {
+        return &table[..0];
+    }
+    let to = from + size;
+    &table[from..to]
+}
+
+// The entry at place `at`.
+fn entry_at(table: &[u8], at: usize) -> Entry
+    requires { ⌜ at ≤ 472 ⌝ }
+    ensures { λ r. ⌜ (at < r .next) × (r .next ≤ 4096) ⌝ }
+{
+    let nodes = byte(table, at) as usize;
+    let pairs = at + 1;
+    let free = behind(table, pairs) + nodes + 3;
+    let falling = behind(table, free);
+    let links = behind(table, falling);
+    let full = behind(table, links);
+    let messages = behind(table, full);
+    let next = behind(table, messages) + 2;
+    Entry {
+        nodes,
+        pairs,
+        falling,
+        links,
+        full,
+        messages,
+        next,
+    }
+}
+
+// A line of a word and bytes.
+fn tell_bytes(word: &[u8], bytes: &[u8]) {
+    let mut out = [0u8; ROOM];
+    let start = laid::put(&mut out, 0, word);
+    let fields = lines::byte_fields(&mut out, start, bytes);
+    let end = laid::byte(&mut out, fields, 10);
+    io::write_all(1, inputs::front(&out, end));
+}
+
+fn tell_image(image: &[u8], listed: &[u8]) {
+    if listed.len() != 0 {
+        tell_bytes(b"image", image);
+    }
+}
+
+// The falling rows are the last bytes of the full image.
+fn tell_falling(image: &[u8], listed: &[u8]) {
+    if listed.len() == 0 {
+        return;
+    }
+    if listed.len() <= image.len() {
+        let from = image.len() - listed.len();
+        tell_bytes(b"falling", &image[from..]);
+    }
+}
+
+fn tell_messages(image: &[u8], messages: &[u8]) {
+    if messages.len() == 0 {
+        return;
+    }
+    inputs::tell_drained(image, messages);
+    let look = [seeds::look(seeds::next_seed(0), messages.len() / 2)];
+    let mut out = [0u8; ROOM];
+    let end = lines::line(&mut out, 0, b"looks", &look);
+    io::write_all(1, inputs::front(&out, end));
+}
+
+// Writes an image of the entry's network; answers its length, 0 where it is refused.
+fn laid(table: &[u8], e: Entry, full: bool, buffer: &mut [u8]) -> usize {
+    let written = writing::write(e.nodes, list(table, e.pairs), full, buffer);
+    match written {
+        Written::Bytes(m) => m,
+        Written::NotWritten(_) => 0,
+    }
+}
+
+fn tell_links(table: &[u8], e: Entry, image: &[u8]) {
+    let mut out = [0u8; shown::LONGEST];
+    let written = shown::output(image, &mut out);
+    lines::say(written, &out);
+    tell_image(image, list(table, e.links));
+    tell_messages(image, list(table, e.messages));
+}
+
+fn tell_full(table: &[u8], e: Entry, image: &[u8]) {
+    tell_image(image, list(table, e.full));
+    tell_falling(image, list(table, e.falling));
+}
+
+fn tell_entry(table: &[u8], e: Entry, buffer: &mut [u8]) {
+    let links = laid(table, e, false, buffer);
+    tell_links(table, e, inputs::front(buffer, links));
+    let full = laid(table, e, true, buffer);
+    tell_full(table, e, inputs::front(buffer, full));
+}
+
+// Every entry.
+pub fn tell_all(table: &[u8]) {
+    let mut at = 0;
+    while at < 472 {
+        let e = entry_at(table, at);
+        let mut space = io::large_buffer();
+        tell_entry(table, e, &mut space);
+        at = e.next;
+    }
+}

@@ -1,0 +1,2 @@
+mod Fresh
+pub mod Determined

@@ -1,0 +1,155 @@
+// One turn of a drain: which message moves next, and its move.
+ghost use mathlib.Core.Path.{_≡_};
+ghost use Prim.Native.Nat.{_≤_, min};
+ghost use Rattle.messages.specs.Sizes.{maxMessages};
+ghost use Rattle.messages.specs.Ready.{readyAt};
+ghost use Rattle.machine.specs.InPlace.{packed};
+ghost use Rattle.turning.specs.Order.{chosenBy, turnOf};
+ghost use Rattle.turning.specs.InPlace.{turned, turnIn};
+use messages::MAX_MESSAGES;
+use messages::MAX_PAIRS;
+use messages::Record;
+use nodes::MAX_NODES;
+
+// One move of a drain: the seed, the message where it looked first, the one that moved, and the record after it.
+pub struct Turned {
+    pub seed: u32,
+    pub look: usize,
+    pub message: usize,
+    pub record: Record,
+}
+
+// The same in arrays that stay in their place: the count of moves stands for the record.
+pub struct Picked {
+    pub seed: u32,
+    pub look: usize,
+    pub message: usize,
+    pub moves: usize,
+}
+
+// The first message that is ready from `look` on, going round; `look` where none is.
+fn choice(
+    nodes: usize,
+    messages: usize,
+    free: &[u8],
+    falling: &[u8],
+    targets: &[u8],
+    heads: &[u8],
+    classes: &[u8],
+    delivered: &[u8],
+    holders: &[u16],
+    look: usize,
+) -> usize
+    requires { ⌜ look ≤ maxMessages ⌝ }
+    ensures { λ r. ⌜ r ≡ chosenBy (min messages maxMessages) (readyAt nodes (now (free .entry)) (now (falling .entry)) (now (targets .entry)) (now (heads .entry)) (now (classes .entry)) (now (delivered .entry)) (now (holders .entry))) look ⌝ }
+{
+    let n = machine::few(messages);
+    for k in 0..n {
+        let m = (look + k) % n;
+        if machine::is_ready(
+            nodes,
+            free,
+            falling,
+            holders,
+            slices::byte(heads, m),
+            slices::byte(targets, m),
+            slices::byte(classes, m),
+            slices::byte(delivered, m),
+        ) {
+            return m;
+        }
+    }
+    look
+}
+
+// The next seed, where it says to look, and the move, in place, of the message that is found there. One that arrives gives back only channels below `span`.
+pub fn turn_in<'a>(
+    seed: u32,
+    nodes: usize,
+    messages: usize,
+    moves: usize,
+    span: usize,
+    labels: &'a [u8; MAX_NODES],
+    free: &'a [u8; MAX_PAIRS],
+    falling: &'a [u8; MAX_PAIRS],
+    targets: &'a [u8; MAX_MESSAGES],
+    heads: &mut [u8; MAX_MESSAGES],
+    classes: &mut [u8; MAX_MESSAGES],
+    delivered: &mut [u8; MAX_MESSAGES],
+    holders: &mut [u16; MAX_PAIRS],
+) -> Picked
+    ensures { λ r. ⌜ turned (r .seed) (r .look) (r .message) (packed nodes messages (r .moves) (now (labels .entry)) (now (free .entry)) (now (falling .entry)) (now (targets .entry)) (now (heads .exit)) (now (classes .exit)) (now (delivered .exit)) (now (holders .exit))) ≡ turnIn span seed (packed nodes messages moves (now (labels .entry)) (now (free .entry)) (now (falling .entry)) (now (targets .entry)) (now (heads .entry)) (now (classes .entry)) (now (delivered .entry)) (now (holders .entry))) ⌝ }
+{
+    let next = seeds::next_seed(seed);
+    let from = seeds::look(next, machine::few(messages));
+    let chosen = choice(
+        nodes,
+        messages,
+        free,
+        falling,
+        targets,
+        heads,
+        classes,
+        delivered,
+        holders,
+        from,
+    );
+    let done = machine::step_in(
+        nodes,
+        messages,
+        moves,
+        span,
+        labels,
+        free,
+        falling,
+        targets,
+        heads,
+        classes,
+        delivered,
+        holders,
+        chosen,
+    );
+    Picked {
+        seed: next,
+        look: from,
+        message: chosen,
+        moves: done.moves,
+    }
+}
+
+// The next seed, where it says to look, and the move of the message that is found there.
+pub fn turn(seed: u32, record: Record) -> Turned
+    ensures { λ r. ⌜ r ≡ turnOf seed «record» ⌝ }
+{
+    let mut heads = record.heads;
+    let mut classes = record.classes;
+    let mut delivered = record.delivered;
+    let mut holders = record.holders;
+    let picked = turn_in(
+        seed,
+        record.nodes,
+        record.messages,
+        record.moves,
+        MAX_PAIRS,
+        &record.labels,
+        &record.free,
+        &record.falling,
+        &record.targets,
+        &mut heads,
+        &mut classes,
+        &mut delivered,
+        &mut holders,
+    );
+    let mut after = record;
+    after.moves = picked.moves;
+    after.heads = heads;
+    after.classes = classes;
+    after.delivered = delivered;
+    after.holders = holders;
+    Turned {
+        seed: picked.seed,
+        look: picked.look,
+        message: picked.message,
+        record: after,
+    }
+}

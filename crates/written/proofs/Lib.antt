@@ -1,3 +1,0 @@
-pub mod Placed
-pub mod Meaning
-pub mod Tight
