@@ -44,7 +44,7 @@ fn hops(board: &Board, source: usize, destination: usize) -> Option<usize> {
 
 fn main() {
     for name in env::args().skip(1) {
-        let image = fs::read(&name).unwrap_or_default();
+        let image = fs::read(&name).unwrap_or_else(|wrong| { eprintln!("{name}: {wrong}"); exit(1) });
         let board = load(&image).unwrap_or_else(|wrong| { eprintln!("{name}: {wrong}"); exit(1) });
         let (mut sum, mut longest) = (0, 0);
         for pair in 0..board.nodes * board.nodes {

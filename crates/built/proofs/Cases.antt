@@ -16,7 +16,7 @@ use Rattle.lines.specs.Lines.{refusalLine, longestRefusal}
 use Rattle.lines.proofs.Printed.{fault-prints, written-prints}
 use Rattle.format.specs.Contents.{fullKinds}
 use Rattle.image.specs.Image.{imageOf, cablingIn}
-use Rattle.image.specs.Calls.{linksFault}
+use Rattle.image.specs.Faults.{linksFault}
 use Rattle.image.proofs.Faults.{cabling-good, links-fine}
 use Rattle.image.proofs.Images.{image-size}
 use Rattle.built.specs.Builds.{longestBuild, outputOf}

@@ -4,7 +4,7 @@ use Prim.Native.Nat.{ℕ}
 use Rattle.format.specs.Contents.{fullKinds}
 use Rattle.image.specs.Image.{imageOf, cablingIn}
 use Rattle.image.specs.Longest.{longestImage}
-use Rattle.image.specs.Calls.{linksFault}
+use Rattle.image.specs.Faults.{linksFault}
 use Rattle.lines.specs.Lines.{orRefused}
 
 -- no longer than this: the longest full image

@@ -34,7 +34,7 @@ use Rattle.messages.specs.Fresh.{begunOf}
 use Rattle.messages.specs.Runs.{messagesIn, routeIn, allMoves}
 use Rattle.seeds.specs.Seed.{lookAt}
 use Rattle.start.specs.Start.{fits, strange, listFault, startFault, freshOf}
-use Rattle.turning.specs.Order.{turnOf}
+use Rattle.picking.specs.Order.{pickOf}
 use Rattle.draining.specs.Drained.{drainOf}
 use Rattle.draining.proofs.Answers.{drain-record}
 use Rattle.draining.proofs.Meaning.{end-moves}
@@ -64,7 +64,7 @@ right : (e : Worked)
     → Given (e .full-image) (imageOf fullKinds (e .cabling))
     → listFault (e .cabling .nodes) (e .messages) ≡ Fine
     → allMoves (e .cabling .nodes) (links (e .cabling)) (e .labels) (e .messages) ≡ e .moves
-    → ((full : Bool) → turnOf 0 (freshOf (imageOf (kindsOf full) (e .cabling)) (e .messages)) .look ≡ e .look)
+    → ((full : Bool) → pickOf 0 (freshOf (imageOf (kindsOf full) (e .cabling)) (e .messages)) .look ≡ e .look)
     → Right e
 right e fine labels turns barred first free falling short long listed sum look =
     let c = e .cabling in
@@ -95,7 +95,7 @@ unfolding _&_ _or_ non same below sumTo any all least leastValue lowestAt leastB
     among degree grow spread reach covers joined connected cut joins linkedBy linked rises falls prohibited
     leads joining layer lowestLead firstLayer entry freeAfter follow routeOf room candidate choice remains give stage labelled labelsOf turnsThat
     faultOf linkFault nodeFault unreached crowded badPair notAbove isAbove badEnds isShaped isCounted
-    rowsOf entriesOf joinedUp imageFrom bodiesOf imageOf messagesIn routeIn allMoves fits strange listFault begunOf freshOf lookAt turnOf
+    rowsOf entriesOf joinedUp imageFrom bodiesOf imageOf messagesIn routeIn allMoves fits strange listFault begunOf freshOf lookAt pickOf
 every-right =
     and-this (right link refl refl refl refl refl refl refl refl refl refl refl (λ full. refl))
     (and-this (right triangle refl refl refl refl refl refl refl tt tt refl refl (λ full. refl))

@@ -10,7 +10,7 @@ use Rattle.format.specs.Contents.{linksKinds, fullKinds}
 use Rattle.image.specs.Image.{imageOf, kindsOf}
 use Rattle.messages.specs.declared.Record.{Record}
 use Rattle.start.specs.Start.{freshOf}
-use Rattle.turning.specs.Order.{turnOf}
+use Rattle.picking.specs.Order.{pickOf}
 use Rattle.draining.specs.Drained.{drainOf}
 use Rattle.by_hand.specs.Networks.{Worked}
 
@@ -35,4 +35,4 @@ pub record Right (e : Worked) : Type 0 where
   -- RULES 11.1: "take 12 successful moves": so many a drain counts over either image, whatever its seed and whatever the record was
   pub moves : (full : Bool) (old : Record) (seed : ℕ) → drainOf old (imageOf (kindsOf full) (e .cabling)) (e .messages) seed .«record» .moves ≡ e .moves
   -- RULES 11.1: "From seed 0 the drain looks at message 2 first": in its first turn
-  pub look : (full : Bool) → turnOf 0 (freshOf (imageOf (kindsOf full) (e .cabling)) (e .messages)) .look ≡ e .look
+  pub look : (full : Bool) → pickOf 0 (freshOf (imageOf (kindsOf full) (e .cabling)) (e .messages)) .look ≡ e .look

@@ -140,7 +140,7 @@ fn turned(record: Record, seed: u32) {
         if records::all_delivered(last) {
             break;
         }
-        let t = turning::turn(next, last);
+        let t = picking::pick(next, last);
         next = t.seed;
         let after = t.record;
         last = after;

@@ -10,10 +10,10 @@ use lib.ListN.{length}
 use Rattle.finite.specs.Sum.{when}
 use Rattle.finite.proofs.Truth.{bcase}
 use Rattle.finite.proofs.Sum.{sum-cong, sum-le, when-le, when-true, when-false, sum-equal}
-use Rattle.claims.specs.Claims.{Progress, Keeps, holds, Lawful, made, whole}
+use Rattle.claims.specs.Claims.{Progress, Keeps, holds, WithinItinerary, made, whole}
 use Rattle.claims.proofs.Holding.{done-free}
 
-module _ (k : ℕ) (itinerary : ℕ → List ℕ) (s : Progress) (lawful : Lawful k itinerary s) where
+module _ (k : ℕ) (itinerary : ℕ → List ℕ) (s : Progress) (lawful : WithinItinerary k itinerary s) where
   term-le : (m : ℕ) → m < k → s .taken m + when (s .done m) 1 ≤ length (itinerary m) + 1
   term-le m l = add-le-add (lawful .within m l) (when-le (s .done m) 1)
 

@@ -9,7 +9,7 @@ use Rattle.finite.specs.Truth.{_&_, _or_, non, same}
 use Rattle.finite.specs.Sum.{when}
 use Rattle.finite.proofs.Truth.{no-tf, bcase, or-l, or-false, same-eq, same-ne, ne-same, same-refl}
 use Rattle.finite.proofs.Sum.{sum-cong, when-true, when-false, sum-one-more}
-use Rattle.claims.specs.Claims.{Progress, Keeps, keptIn, holds, finishing, Lawful, Exclusive, made}
+use Rattle.claims.specs.Claims.{Progress, Keeps, keptIn, holds, finishing, WithinItinerary, Exclusive, made}
 use Rattle.claims.proofs.Holding.{done-free}
 
 module _ (s : Progress) (m : ℕ) where
@@ -39,7 +39,7 @@ module _ (s : Progress) (m : ℕ) where
           omega arith)
 
 module _ (itinerary : ℕ → List ℕ) (s : Progress) (m : ℕ) where
-  pub finishing-lawful : (k : ℕ) → Lawful k itinerary s → s .taken m ≡ length (itinerary m) → Lawful k itinerary (finishing s m)
+  pub finishing-lawful : (k : ℕ) → WithinItinerary k itinerary s → s .taken m ≡ length (itinerary m) → WithinItinerary k itinerary (finishing s m)
   unfolding finishing
   finishing-lawful k lawful e = record {
     within = lawful .within;

@@ -12,7 +12,7 @@ use Rattle.finite.specs.Sum.{when}
 use Rattle.finite.proofs.Truth.{no-tf, bcase, both, and-l, and-r, and-true, or-case, same-eq, same-ne, ne-same, same-refl}
 use Rattle.finite.proofs.Sum.{sum-cong, when-true, when-false, sum-one-more}
 use Rattle.finite.proofs.Search.{any-more, any-some, some-any, any-cong}
-use Rattle.claims.specs.Claims.{Progress, Keeps, keptIn, holds, wanted, taking, Keeping, Lawful, Exclusive, made}
+use Rattle.claims.specs.Claims.{Progress, Keeps, keptIn, holds, wanted, taking, Keeping, WithinItinerary, Exclusive, made}
 use Rattle.claims.proofs.Holding.{undone-holds}
 
 module _ (s : Progress) (m : ℕ) where
@@ -35,7 +35,7 @@ module _ (s : Progress) (m : ℕ) where
       ∙ sum-one-more k m _ l
 
 module _ (itinerary : ℕ → List ℕ) (s : Progress) (m : ℕ) where
-  pub taking-lawful : (k : ℕ) → Lawful k itinerary s → s .done m ≡ false → s .taken m < length (itinerary m) → Lawful k itinerary (taking s m)
+  pub taking-lawful : (k : ℕ) → WithinItinerary k itinerary s → s .done m ≡ false → s .taken m < length (itinerary m) → WithinItinerary k itinerary (taking s m)
   taking-lawful k lawful d b = record {
     within = λ c l.
         bcase (same m c) (λ t. let e = same-eq m c t in rw (sym e) (let h = taken-here s m in omega arith))

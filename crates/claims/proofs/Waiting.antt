@@ -12,10 +12,10 @@ use Rattle.finite.specs.Search.{Some}
 use Rattle.finite.proofs.Truth.{bcase, refute, non-true, true-non, below-lt, below-le}
 use Rattle.finite.proofs.Sum.{sum-term}
 use Rattle.finite.proofs.Search.{find, smallest}
-use Rattle.claims.specs.Claims.{Progress, Keeps, holds, wanted, CanStep, can-take, can-finish, SomeCanStep, Rising, Lawful}
+use Rattle.claims.specs.Claims.{Progress, Keeps, holds, wanted, CanStep, can-take, can-finish, SomeCanStep, Rising, WithinItinerary}
 use Rattle.claims.proofs.Holding.{Held, holds-held}
 
-module _ (k : ℕ) (itinerary : ℕ → List ℕ) (keeps : Keeps) (rank : ℕ → ℕ) (s : Progress) (lawful : Lawful k itinerary s) (rising : Rising k itinerary rank) where
+module _ (k : ℕ) (itinerary : ℕ → List ℕ) (keeps : Keeps) (rank : ℕ → ℕ) (s : Progress) (lawful : WithinItinerary k itinerary s) (rising : Rising k itinerary rank) where
   -- the rank of what m wants next
   abbrev height : ℕ → ℕ
   height m = rank (wanted itinerary s m)

@@ -60,7 +60,7 @@ Rising k itinerary rank =
     (m : ℕ) → m < k → (i j : ℕ) → i < j → j < length (itinerary m) → rank (getD (itinerary m) i 0) < rank (getD (itinerary m) j 0)
 
 -- nobody has taken more than there is, and who is done has taken all
-pub record Lawful (k : ℕ) (itinerary : ℕ → List ℕ) (s : Progress) : Type 0 where
+pub record WithinItinerary (k : ℕ) (itinerary : ℕ → List ℕ) (s : Progress) : Type 0 where
   pub within : (m : ℕ) → m < k → s .taken m ≤ length (itinerary m)
   pub finished : (m : ℕ) → m < k → s .done m ≡ true → s .taken m ≡ length (itinerary m)
 

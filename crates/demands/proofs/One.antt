@@ -12,7 +12,7 @@ use Rattle.finite.specs.Truth.{below}
 use Rattle.finite.proofs.Truth.{no-tf, bcase, both, below-lt, below-le}
 use Rattle.refusal.specs.declared.Refusal.{Refusal}
 use Rattle.refusal.specs.declared.Refusal.the-variants.{Short, Unknown}
-use Rattle.refusal.proofs.Determined.{refusal-determined}
+use Rattle.refusal.proofs.Determined.{refusal-unique}
 use Rattle.refusal.specs.declared.Verdict.{Verdict}
 use Rattle.refusal.specs.declared.Verdict.the-variants.{Fine, Fault}
 use Rattle.refusal.proofs.Verdicts.{fine-fault}
@@ -26,7 +26,7 @@ use Rattle.results.specs.Written.{writtenOf, Writes}
 use Rattle.results.proofs.Meaning.{written-fault, written-short, refused-in-room, refused-untouched}
 use Rattle.results.proofs.Determined.{writes-determined}
 use Rattle.image.specs.Image.{imageOf, kindsOf, cablingIn}
-use Rattle.image.specs.Calls.{linksFault, imageFault}
+use Rattle.image.specs.Faults.{linksFault, imageFault}
 use Rattle.reading.specs.Reads.{outcomeOf, Reads}
 use Rattle.image.specs.Verdicts.{OfLinks}
 use Rattle.image.proofs.Faults.{then-fault}
@@ -48,7 +48,7 @@ use Rattle.hops.proofs.Meaning.{row-refused-iff, hop-refused-iff, hop-refusal}
 use Rattle.start.specs.declared.Started.{Started}
 use Rattle.start.specs.Start.{startFault, recordAfter, startOf}
 use Rattle.start.proofs.Meaning.{start-means}
-use Rattle.demands.specs.Calls.{Step, Never, NoRows, NotStarts, Start, StartRows, NotMoves, Move, MoveRows, NoRow, Row, RowRows, NoHop, Hop, HopRows, Numbered, Keeps, Rows, fault, short, NotWrites, Write, WriteRows, Build, BuildRows, NotReads, ReadRows, OfRoute, of-image, no-node, of-nodes, Route, RouteRows}
+use Rattle.demands.specs.Calls.{ReaderStep, Never, NoRows, NotStarts, Start, StartRows, NotMoves, Move, MoveRows, NoRow, Row, RowRows, NoHop, Hop, HopRows, Numbered, KeepsPromise, RefusalRows, fault, short, NotWrites, Write, WriteRows, Build, BuildRows, NotReads, ReadRows, OfRoute, of-image, no-node, of-nodes, Route, RouteRows}
 
 -- the same refusals, so the same numbers and places
 numbered : {P Q : Refusal → Type 0} → ((r : Refusal) → P r ↔ Q r) → (number place : ℕ) → Numbered P number place ↔ Numbered Q number place
@@ -58,10 +58,10 @@ numbered h number place = (λ x. let (r, p, n, q) = x in (r, h r .0 p, n, q), λ
 
 module _ {Of : Verdict → Type 0} (bytes : List ℕ) (room : ℕ) where
   -- with what the verdict means, the refusals of the answer mean what the rows say
-  rows-mean : (v : Verdict) → ((w : Verdict) → (v ≡ w) ↔ Of w) → (r : Refusal) → (writtenOf v bytes room ≡ NotWritten r) ↔ Rows Of (length bytes) room r
+  rows-mean : (v : Verdict) → ((w : Verdict) → (v ≡ w) ↔ Of w) → (r : Refusal) → (writtenOf v bytes room ≡ NotWritten r) ↔ RefusalRows Of (length bytes) room r
   rows-mean v m r = (from v m, back r)
     where
-      from : (v : Verdict) → ((w : Verdict) → (v ≡ w) ↔ Of w) → writtenOf v bytes room ≡ NotWritten r → Rows Of (length bytes) room r
+      from : (v : Verdict) → ((w : Verdict) → (v ≡ w) ↔ Of w) → writtenOf v bytes room ≡ NotWritten r → RefusalRows Of (length bytes) room r
       from (Fault q) m e = fault (m (Fault r) .0 (let f = written-fault bytes room q in cc))
       from Fine m e =
           bcase (leb (length bytes) room) (λ t. fine-fault refl (refused-in-room bytes room Fine r (λ f. leb-true _ _ t) e))
@@ -70,13 +70,13 @@ module _ {Of : Verdict → Type 0} (bytes : List ℕ) (room : ℕ) where
           let q : Short ≡ r = let f = written-short bytes room .1 l in cc in
           rw (← q) (short (m Fine .0 refl) l))
 
-      back : (r : Refusal) → Rows Of (length bytes) room r → writtenOf v bytes room ≡ NotWritten r
+      back : (r : Refusal) → RefusalRows Of (length bytes) room r → writtenOf v bytes room ≡ NotWritten r
       back r (fault o) = ap (λ (w : Verdict). writtenOf w bytes room) (m _ .1 o) ∙ written-fault bytes room _
       back r (short o l) = ap (λ (w : Verdict). writtenOf w bytes room) (m _ .1 o) ∙ written-short bytes room .1 l
 
 -- so a call that writes keeps demand 1
 module _ {I : Type 0} (v : I → Verdict) (bytes : I → List ℕ) (Of : I → Verdict → Type 0) (means : (i : I) (w : Verdict) → (v i ≡ w) ↔ Of i w) where
-  writes-keep : Keeps {S = List ℕ} (λ i before a after. Writes (v i) (bytes i) before a after) NotWrites (λ i before. Rows (Of i) (length (bytes i)) (length before))
+  writes-keep : KeepsPromise {S = List ℕ} (λ i before a after. Writes (v i) (bytes i) before a after) NotWrites (λ i before. RefusalRows (Of i) (length (bytes i)) (length before))
   writes-keep = record {
     one = λ i s t u a b x y. writes-determined x y;
     given = λ i s t a x.
@@ -84,10 +84,10 @@ module _ {I : Type 0} (v : I → Verdict) (bytes : I → List ℕ) (Of : I → V
     untouched = λ i s t a r x e. refused-untouched (bytes i) s t (v i) r (rw e at x);
   }
 
-pub write-keeps : Keeps Write NotWrites WriteRows
+pub write-keeps : KeepsPromise Write NotWrites WriteRows
 write-keeps = writes-keep (λ i. faultOf (i .0)) (λ i. imageOf (kindsOf (i .1)) (i .0)) (λ i. Means (i .0)) (λ i. fault-means (i .0))
 
-pub build-keeps : Keeps Build NotWrites BuildRows
+pub build-keeps : KeepsPromise Build NotWrites BuildRows
 build-keeps = writes-keep linksFault (λ b. imageOf fullKinds (cablingIn b)) OfLinks links-means
 
 route-means : (b : List ℕ) (s t : ℕ) (v : Verdict) → (routeFault b s t ≡ v) ↔ OfRoute b s t v
@@ -111,10 +111,10 @@ route-means b s t v = (λ e. rw (← e) row, given)
     given (no-node o h) = ends-refused b s t (either-means b Fine .1 o) h
     given (of-nodes o k l) = not-refused b s t (either-means b Fine .1 o) k l
 
-pub route-keeps : Keeps Route NotWrites RouteRows
+pub route-keeps : KeepsPromise Route NotWrites RouteRows
 route-keeps = writes-keep (λ i. routeFault (i .0) (i .1) (i .2)) (λ i. routeBytes (i .0) (i .1) (i .2)) (λ i. OfRoute (i .0) (i .1) (i .2)) (λ i. route-means (i .0) (i .1) (i .2))
 
-pub read-keeps : Keeps Reads NotReads ReadRows
+pub read-keeps : KeepsPromise Reads NotReads ReadRows
 read-keeps = record {
   one = λ b s t u x y. reads-determined b;
   given = λ b s t a x.
@@ -126,7 +126,7 @@ read-keeps = record {
 
 -- ---- calls over a record
 
-pub start-keeps : Keeps Start NotStarts StartRows
+pub start-keeps : KeepsPromise Start NotStarts StartRows
 unfolding startOf recordAfter
 start-keeps = record {
   one = λ i s t u a b x y. let e = x ∙ sym y in (ap (λ (z : Started). z .verdict) e, ap (λ (z : Started). z .«record») e);
@@ -138,7 +138,7 @@ start-keeps = record {
       ap (λ (z : Started). z .«record») x ∙ rw (e, recordAfter);
 }
 
-pub move-keeps : Keeps Move NotMoves MoveRows
+pub move-keeps : KeepsPromise Move NotMoves MoveRows
 move-keeps = record {
   one = λ m s t u a b x y. let e = x ∙ sym y in (ap (λ (z : Stepped). z .answer) e, ap (λ (z : Stepped). z .«record») e);
   given = λ m s t a x. numbered (λ r. (λ e. refused (step-case s m) (sym (answer-of x) ∙ e), λ o. answer-of x ∙ none s m (o .1) ∙ ap move.Refused (sym (o .0))));
@@ -163,14 +163,14 @@ move-keeps = record {
 
 -- ---- calls over tables
 
-pub row-keeps : Keeps Row NoRow RowRows
+pub row-keeps : KeepsPromise Row NoRow RowRows
 row-keeps = record {
   one = λ i s t u a b x y. (x ∙ sym y, refl);
   given = λ i s t a x. numbered (λ r. let m = row-refused-iff (i .0) (i .1) (i .2) (i .3) (i .4) in (λ e. (m .0 (sym x ∙ e .0), e .1), λ o. (x ∙ m .1 (o .0), o .1)));
   untouched = λ i s t a r x e. refl;
 }
 
-pub hop-keeps : Keeps Hop NoHop HopRows
+pub hop-keeps : KeepsPromise Hop NoHop HopRows
 hop-keeps = record {
   one = λ i s t u a b x y. (x ∙ sym y, refl);
   given = λ i s t a x.
@@ -178,7 +178,7 @@ hop-keeps = record {
       let m = hop-refused-iff (i .0 .0) (i .0 .1) (i .0 .2) (i .0 .3) (i .0 .4) (i .1) in (
         λ e.
             let (n, p) = hop-refusal (i .0 .0) (i .0 .1) (i .0 .2) (i .0 .3) (i .0 .4) (i .1) r (sym x ∙ e) in
-            let q : r ≡ Unknown 0 = refusal-determined r (Unknown 0) n p in
+            let q : r ≡ Unknown 0 = refusal-unique r (Unknown 0) n p in
             (m .0 (sym x ∙ e ∙ ap hop.Refused q), q),
         λ o. x ∙ m .1 (o .0) ∙ ap hop.Refused (sym (o .1)),
       ));
@@ -187,7 +187,7 @@ hop-keeps = record {
 
 -- ---- the reader of the contents
 
-pub reader-keeps : Keeps Step Never NoRows
+pub reader-keeps : KeepsPromise ReaderStep Never NoRows
 reader-keeps = record {
   one = λ i s t u a b x y. step-determined s a b t u x y;
   given = λ i s t a x. numbered (λ r. (λ e. e, λ e. e));

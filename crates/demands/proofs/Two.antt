@@ -3,28 +3,32 @@
 use mathlib.Core.Path.{_≡_, sym, _∙_}
 use mathlib.Core.Bool.{Bool, true, false}
 use mathlib.Core.List.{List}
-use Prim.Native.Nat.{ℕ, _+_, _*_, _/_, _≤_}
+use Prim.Native.Nat.{ℕ, _+_, _*_, _/_, _≤_, _<_}
 use native.Mathlib.Omega.{arith}
 use lib.ListN.{length, take}
 use lib.Seq.{ext-getD}
 use Rattle.lawful.specs.Turn.{labelIn}
-use Rattle.cabling.specs.Cabling.{Cabling, cabled, Good}
+use Rattle.lawful.specs.Path.{LawfulTo, Shortest}
+use Rattle.cabling.specs.Cabling.{Cabling, cabled, Good, links}
 use Rattle.cabling.specs.Faults.{faultOf}
-use Rattle.fabric.specs.Fabric.{labelsFor, rowsFor}
+use Rattle.fabric.specs.Fabric.{labelsFor, labelFor, rowsFor, routeFor}
 use Rattle.fabric.proofs.Labels.{labels-length, good-by-rule, good-labels-unique}
 use Rattle.fabric.proofs.Rows.{good-free-rows, good-falling-rows, free-rows-unique, falling-rows-unique}
+use Rattle.fabric.proofs.Routes.{good-route}
 use Rattle.format.specs.Contents.{linksKinds, fullKinds}
+use Rattle.format.proofs.Order.{in-order-iff}
 use Rattle.results.specs.declared.Written.{Written}
 use Rattle.results.specs.declared.Written.the-variants.{Bytes}
 use Rattle.results.specs.Written.{placed, Writes}
 use Rattle.image.specs.Image.{bodiesOf, imageOf, kindsOf, cablingIn}
-use Rattle.image.specs.Calls.{linksFault}
+use Rattle.image.specs.Faults.{linksFault}
 use Rattle.reading.specs.Reads.{Reads}
 use Rattle.reading.specs.declared.Outcome.{Outcome}
 use Rattle.reading.specs.declared.Outcome.the-variants.{Read}
-use Rattle.image.proofs.Pieces.{full-size}
-use Rattle.image.proofs.Images.{full-bodies}
-use Rattle.reading.proofs.Calls.{never-refused, build-as-write, read-written, write-read}
+use Rattle.image.proofs.Sizes.{full-size}
+use Rattle.image.proofs.Images.{read-kind, full-bodies}
+use Rattle.reading.proofs.Calls.{read-written, write-read}
+use Rattle.writing.proofs.Calls.{never-refused, build-as-write}
 use Rattle.demands.specs.Rules.{ByTheRule, Built}
 
 module _ (c : Cabling) (g : Good c) where
@@ -37,6 +41,11 @@ module _ (c : Cabling) (g : Good c) where
       let e : labels ≡ labelsFor c =
       ext-getD 0 labels (labelsFor c) (r .size ∙ sym (labels-length c)) (λ v l. let s = r .size in good-labels-unique g (labelIn labels) (r .by-rule) v (omega arith)) in
       (e, free-rows-unique g (rw e at (r .free-rows)), falling-rows-unique g (rw e at (r .falling-rows)))
+
+  -- RULES 2.2: "Every pair of nodes has a lawful path, and a message that follows its entries walks a shortest one."
+  pub demand-2-route : (s t : ℕ) → s < c .nodes → t < c .nodes
+      → ((l : List ℕ) × LawfulTo (links c) (labelFor c) s t l) × Shortest (LawfulTo (links c) (labelFor c) s t) (routeFor c s t)
+  demand-2-route s t a z = let r = good-route g s t a z in ((routeFor c s t, r .is), r)
 
   module _ {before after : List ℕ} where
     -- RULES 2.2: "Connected cabling inside the limits, given room, is never refused.": build answers, with labels and entries by the rule
@@ -51,6 +60,7 @@ module _ (c : Cabling) (g : Good c) where
           image = imageOf fullKinds c;
           answers = d .0;
           leaves = d .1;
+          ordered = in-order-iff (imageOf fullKinds c) fullKinds .0 (read-kind c g true);
           labels = labelsFor c;
           free = rowsFor c true;
           falling = rowsFor c false;

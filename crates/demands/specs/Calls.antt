@@ -25,7 +25,7 @@ use Rattle.results.specs.declared.Written.{Written}
 use Rattle.results.specs.declared.Written.the-variants.{NotWritten}
 use Rattle.results.specs.Written.{Writes}
 use Rattle.image.specs.Image.{imageOf, kindsOf, cablingIn}
-use Rattle.image.specs.Calls.{linksFault}
+use Rattle.image.specs.Faults.{linksFault}
 use Rattle.image.specs.Verdicts.{OfLinks, OfEither}
 use Rattle.reading.specs.declared.Outcome.{Outcome}
 use Rattle.reading.specs.declared.Outcome.the-variants.{NotRead}
@@ -44,19 +44,19 @@ abbrev pub Numbered : (Refusal → Type 0) → ℕ → ℕ → Type 0
 Numbered P number place = (r : Refusal) × P r × (numberOf r ≡ number) × (placeOf r ≡ place)
 
 -- a call with inputs I, lent memory S and answers A keeps demand 1
-pub record Keeps {I S A : Type 0} (Promise : I → S → A → S → Type 0) (Refuses : A → Refusal → Type 0) (Rows : I → S → Refusal → Type 0) : Type 0 where
+pub record KeepsPromise {I S A : Type 0} (Promise : I → S → A → S → Type 0) (Refuses : A → Refusal → Type 0) (RefusalRows : I → S → Refusal → Type 0) : Type 0 where
   -- RULES 2.1: "any two outcomes that it allows are equal"
   pub one : (i : I) (s t u : S) (a b : A) → Promise i s a t → Promise i s b u → (a ≡ b) × (t ≡ u)
   -- RULES 2.1: "Each refusal is given exactly when its row of 9.1 says, with its number and its place."
-  pub given : (i : I) (s t : S) (a : A) → Promise i s a t → (number place : ℕ) → Numbered (Refuses a) number place ↔ Numbered (Rows i s) number place
+  pub given : (i : I) (s t : S) (a : A) → Promise i s a t → (number place : ℕ) → Numbered (Refuses a) number place ↔ Numbered (RefusalRows i s) number place
   -- RULES 2.1: "A refused call leaves every lent buffer and record as it was."
   pub untouched : (i : I) (s t : S) (a : A) (r : Refusal) → Promise i s a t → Refuses a r → t ≡ s
 
 -- ---- calls that write: the rows of their checks, and 9, RULES 9.1, "the result is longer than the buffer", after all of them
 
-pub data Rows (Of : Verdict → Type 0) (size room : ℕ) : Refusal → Type 0 where
-  fault : {r : Refusal} → Of (Fault r) → Rows Of size room r
-  short : Of Fine → room < size → Rows Of size room Short
+pub data RefusalRows (Of : Verdict → Type 0) (size room : ℕ) : Refusal → Type 0 where
+  fault : {r : Refusal} → Of (Fault r) → RefusalRows Of size room r
+  short : Of Fine → room < size → RefusalRows Of size room Short
 
 abbrev pub NotWrites : Written → Refusal → Type 0
 NotWrites a r = a ≡ NotWritten r
@@ -65,19 +65,19 @@ abbrev pub Write : Cabling × Bool → List ℕ → Written → List ℕ → Typ
 Write i before a after = Writes (faultOf (i .0)) (imageOf (kindsOf (i .1)) (i .0)) before a after
 
 abbrev pub WriteRows : Cabling × Bool → List ℕ → Refusal → Type 0
-WriteRows i before = Rows (Means (i .0)) (length (imageOf (kindsOf (i .1)) (i .0))) (length before)
+WriteRows i before = RefusalRows (Means (i .0)) (length (imageOf (kindsOf (i .1)) (i .0))) (length before)
 
 abbrev pub Build : List ℕ → List ℕ → Written → List ℕ → Type 0
 Build b before a after = Writes (linksFault b) (imageOf fullKinds (cablingIn b)) before a after
 
 abbrev pub BuildRows : List ℕ → List ℕ → Refusal → Type 0
-BuildRows b before = Rows (OfLinks b) (length (imageOf fullKinds (cablingIn b))) (length before)
+BuildRows b before = RefusalRows (OfLinks b) (length (imageOf fullKinds (cablingIn b))) (length before)
 
 abbrev pub NotReads : Outcome → Refusal → Type 0
 NotReads a r = a ≡ NotRead r
 
 abbrev pub ReadRows : List ℕ → List ℕ → Refusal → Type 0
-ReadRows b before = Rows (OfEither b) (length (pairsIn b)) (length before)
+ReadRows b before = RefusalRows (OfEither b) (length (pairsIn b)) (length before)
 
 -- 10, RULES 9.1: "Route: a node ≥ N.", after the image's own
 pub data OfRoute (b : List ℕ) (s t : ℕ) : Verdict → Type 0 where
@@ -89,7 +89,7 @@ abbrev pub Route : List ℕ × ℕ × ℕ → List ℕ → Written → List ℕ 
 Route i before a after = Writes (routeFault (i .0) (i .1) (i .2)) (routeBytes (i .0) (i .1) (i .2)) before a after
 
 abbrev pub RouteRows : List ℕ × ℕ × ℕ → List ℕ → Refusal → Type 0
-RouteRows i before = Rows (OfRoute (i .0) (i .1) (i .2)) (length (routeBytes (i .0) (i .1) (i .2))) (length before)
+RouteRows i before = RefusalRows (OfRoute (i .0) (i .1) (i .2)) (length (routeBytes (i .0) (i .1) (i .2))) (length before)
 
 -- ---- calls over a record
 
@@ -140,8 +140,8 @@ HopRows i s r = (RowFault (i .0 .0) (i .0 .1) (i .0 .2) (i .0 .3) (i .0 .4) ⊎ 
 
 -- ---- the reader of the contents: it refuses nothing, and where there is no entry it answers none and stays
 
-abbrev pub Step : Unit {0} → Reader → Entry → Reader → Type 0
-Step i old a after = (a, after) ≡ stepFrom old
+abbrev pub ReaderStep : Unit {0} → Reader → Entry → Reader → Type 0
+ReaderStep i old a after = (a, after) ≡ stepFrom old
 
 abbrev pub Never : {A : Type 0} → A → Refusal → Type 0
 Never a r = ⊥

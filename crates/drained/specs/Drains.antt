@@ -40,9 +40,9 @@ drainedWord = 100 ∷ 114 ∷ 97 ∷ 105 ∷ 110 ∷ 101 ∷ 100 ∷ []
 abbrev pub drainedLine : Record → List ℕ
 drainedLine r = lineOf drainedWord (r .messages ∷ r .moves ∷ [])
 
--- no longer than this: the word, two numbers of at most 21 digits, and the line feed
+-- no longer than this: the word, two fields of a space and at most 21 digits, and the line feed
 abbrev pub longestDrain : ℕ
-longestDrain = 52
+longestDrain = 7 + 2 * (1 + 21) + 1
 
 unfoldable pub outputOf : List ℕ → List ℕ
 outputOf input = orRefused (inputFault input) (drainedLine (endOf (imageIn input) (listIn input) (seedIn input)))

@@ -12,7 +12,7 @@ use refusal::Verdict;
 use results::Written;
 
 // How much it prints at the most.
-pub const LONGEST: usize = 52;
+pub const LONGEST: usize = 7 + 2 * (1 + 21) + 1;
 
 // The seed in four bytes from place `at` on, low byte first.
 fn seed_at(input: &[u8], at: usize) -> u32

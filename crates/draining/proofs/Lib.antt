@@ -1,4 +1,4 @@
-pub mod Turns
+pub mod Picks
 pub mod Answers
 pub mod Running
 pub mod Meaning

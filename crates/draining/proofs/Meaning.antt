@@ -1,4 +1,4 @@
--- What a drain comes to, whatever its seed: it takes exactly as many turns as the sum of (shortest lawful hops + 1), which it counts; then every message is
+-- What a drain comes to, whatever its seed: it takes exactly as many picks as the sum of (shortest lawful hops + 1), which it counts; then every message is
 -- delivered and every channel is free.
 use mathlib.Core.Path.{_≡_, sym, _∙_}
 use mathlib.Core.Bool.{true, false}
@@ -19,9 +19,9 @@ use Rattle.messages.proofs.Reached.{reached-state}
 use Rattle.messages.proofs.Ready.{delivered-every, messages-listed}
 use Rattle.start.specs.Start.{startFault, freshOf}
 use Rattle.start.proofs.Fabrics.{TabledFor, RunFor, fresh-reached, start-fabric, start-listed}
-use Rattle.turning.specs.Order.{turnOf}
+use Rattle.picking.specs.Order.{pickOf}
 use Rattle.draining.specs.Drained.{after, sumOf, endOf}
-use Rattle.draining.proofs.Turns.{turn-moves, after-run, after-ends, after-same, after-count}
+use Rattle.draining.proofs.Picks.{pick-moves, after-run, after-ends, after-same, after-count}
 use Rattle.draining.proofs.Running.{sum-read, fresh-moves}
 
 module _ (b list : List ℕ) (fine : startFault b list ≡ Fine) where
@@ -31,18 +31,18 @@ module _ (b list : List ℕ) (fine : startFault b list ≡ Fine) where
   listed : Listed (nodesIn b) list
   listed = start-listed b list fine
 
-  -- while a message is undelivered, the one that a turn chooses moves
-  pub chosen-moves : {r : Record} → RunFor (cablingIn b) list r → (seed : ℕ) → allDelivered r ≡ false → successful (stepOf r (turnOf seed r .message) .answer) ≡ true
-  chosen-moves run seed d = turn-moves tabled listed run seed d
+  -- while a message is undelivered, the one that a pick chooses moves
+  pub chosen-moves : {r : Record} → RunFor (cablingIn b) list r → (seed : ℕ) → allDelivered r ≡ false → successful (stepOf r (pickOf seed r .message) .answer) ≡ true
+  chosen-moves run seed d = pick-moves tabled listed run seed d
 
   -- all are delivered exactly when the sum is reached
   delivered-sum : {r : Record} → RunFor (cablingIn b) list r → allDelivered r ≡ true → r .moves ≡ sumOf b list
   delivered-sum {r} run d = let k = messages-listed tabled listed run in all-delivered tabled listed run .1 (λ m l. delivered-every r d m (omega arith)) ∙ sum-read b list
 
   module _ (seed : ℕ) where
-    -- the sum is the number of turns that it takes, and no budget: more turns change nothing
-    pub turns-needed : (k : ℕ) → (allDelivered (after k seed (freshOf b list)) ≡ true) ↔ (sumOf b list ≤ k)
-    turns-needed k =
+    -- the sum is the number of picks that it takes, and no budget: more picks change nothing
+    pub picks-needed : (k : ℕ) → (allDelivered (after k seed (freshOf b list)) ≡ true) ↔ (sumOf b list ≤ k)
+    picks-needed k =
         let z = fresh-moves b list in
         let s = sum-read b list in (
           λ d.
@@ -65,7 +65,7 @@ module _ (b list : List ℕ) (fine : startFault b list ≡ Fine) where
 
     pub end-all : allDelivered (endOf b list seed) ≡ true
     unfolding endOf
-    end-all = turns-needed (sumOf b list) .1 (le-refl _)
+    end-all = picks-needed (sumOf b list) .1 (le-refl _)
 
     pub end-moves : endOf b list seed .moves ≡ sumOf b list
     end-moves = delivered-sum end-run end-all

@@ -23,12 +23,12 @@ use Rattle.messages.proofs.Reached.{reached-state}
 use Rattle.messages.proofs.Drain.{free-from}
 use Rattle.start.specs.Start.{startFault, freshOf}
 use Rattle.start.proofs.Fabrics.{TabledFor, RunFor, label-read, fresh-reached, start-fabric, start-listed}
-use Rattle.turning.specs.declared.Turned.{Turned}
-use Rattle.turning.specs.Order.{turnOf}
-use Rattle.turning.specs.InPlace.{turnIn}
-use Rattle.turning.proofs.InPlace.{turn-in}
+use Rattle.picking.specs.declared.Picked.{Picked}
+use Rattle.picking.specs.Order.{pickOf}
+use Rattle.picking.specs.InPlace.{pickIn}
+use Rattle.picking.proofs.InPlace.{pick-in}
 use Rattle.draining.specs.Drained.{after, sumOf, endOf}
-use Rattle.draining.proofs.Turns.{after-done, after-turn, turn-run, turn-less}
+use Rattle.draining.proofs.Picks.{after-done, after-pick, pick-run, pick-less}
 
 -- the sum is the same over the labels that a record holds
 pub sum-read : (b list : List ℕ) → allMoves (nodesIn b) (links (cablingIn b)) (fabricOf (cablingIn b) .labels) list ≡ sumOf b list
@@ -60,15 +60,15 @@ module _ (b list : List ℕ) (fine : startFault b list ≡ Fine) where
   listed = start-listed b list fine
 
   module _ {seed next : ℕ} {last : Record} (i : Running b list seed next last) where
-    less : allDelivered last ≡ false → suc (sumOf b list - turnOf next last .«record» .moves) ≡ sumOf b list - last .moves
-    less d = rw (sum-read b list) at (turn-less tabled listed (i .run) next d)
+    less : allDelivered last ≡ false → suc (sumOf b list - pickOf next last .«record» .moves) ≡ sumOf b list - last .moves
+    less d = rw (sum-read b list) at (pick-less tabled listed (i .run) next d)
 
-    -- from what a turn leaves it goes on, with a move less to make
-    module _ {t : Turned} (e : t ≡ turnOf next last) (d : allDelivered last ≡ false) where
+    -- from what a pick leaves it goes on, with a move less to make
+    module _ {t : Picked} (e : t ≡ pickOf next last) (d : allDelivered last ≡ false) where
       pub running-more : Running b list seed (t .seed) (t .«record»)
       running-more = rw e (record {
-        run = turn-run tabled listed (i .run) next;
-        ends = sym (after-turn _ next last d) ∙ ap (λ (k : ℕ). after k next last) (less d) ∙ i .ends;
+        run = pick-run tabled listed (i .run) next;
+        ends = sym (after-pick _ next last d) ∙ ap (λ (k : ℕ). after k next last) (less d) ∙ i .ends;
       })
 
       pub running-less : sumOf b list - t .«record» .moves < sumOf b list - last .moves
@@ -88,6 +88,6 @@ module _ (b list : List ℕ) (fine : startFault b list ≡ Fine) where
         let s : span ≡ maxNodes * nodesIn b = omega arith in
         rw s (free-from tabled listed (i .run))
 
-    -- no channel from 64 N on is held, so a turn may leave those out
-    pub running-turn : (span : ℕ) → span ≡ maxNodes * min (last .nodes) maxNodes → turnIn span next last ≡ turnOf next last
-    running-turn span e = turn-in span next last (reached-state tabled listed (i .run) .1 .kept .holders-size) (running-free span e)
+    -- no channel from 64 N on is held, so a pick may leave those out
+    pub running-pick : (span : ℕ) → span ≡ maxNodes * min (last .nodes) maxNodes → pickIn span next last ≡ pickOf next last
+    running-pick span e = pick-in span next last (reached-state tabled listed (i .run) .1 .kept .holders-size) (running-free span e)

@@ -11,14 +11,15 @@ use Rattle.messages.specs.Runs.{allMoves}
 use Rattle.messages.specs.Ready.{allDelivered}
 use Rattle.start.specs.Start.{startFault, freshOf, recordAfter}
 use Rattle.draining.specs.declared.Drained.{Drained}
-use Rattle.turning.specs.Order.{turnOf}
+use Rattle.picking.specs.Order.{pickOf}
 
--- the record once every message is delivered, or after k turns
+-- the record once every message is delivered, or after k picks
 unfoldable pub after : ℕ → ℕ → Record → Record
 after zero seed r = r
-after (suc k) seed r = elim (allDelivered r) [ true ↦ r | false ↦ after k (turnOf seed r .seed) (turnOf seed r .«record») ]
+after (suc k) seed r = elim (allDelivered r) [ true ↦ r | false ↦ after k (pickOf seed r .seed) (pickOf seed r .«record») ]
 
--- RULES 2.3: "the sum, over all messages, of (shortest lawful hops + 1)" for the messages of the list: so many turns a drain takes
+-- RULES 2.3: "the sum, over all messages, of (shortest lawful hops + 1)", by the hops of the routes, for the messages of the list: so many picks a drain
+-- takes. That these hops are the shortest is `sum-of-shortest` (messages/proofs/Total)
 abbrev pub sumOf : List ℕ → List ℕ → ℕ
 sumOf b list = allMoves (nodesIn b) (links (cablingIn b)) (labelsFor (cablingIn b)) list
 

@@ -1,4 +1,4 @@
-// Draining: a start, and turns until every message is delivered.
+// Draining: a start, and picks until every message is delivered.
 ghost use mathlib.Core.Path.{_≡_};
 ghost use Rattle.draining.specs.Drained.{drainOf};
 use messages::Record;
@@ -38,7 +38,7 @@ pub fn drain(record: Record, image: &[u8], list: &[u8], seed: u32) -> Drained
     let mut next = seed;
     let span = MAX_NODES * nodes::capped(nodes);
     while !machine::all_delivered_in(messages, &delivered) {
-        let picked = turning::turn_in(
+        let picked = picking::pick_in(
             next,
             nodes,
             messages,

@@ -1,6 +1,7 @@
 -- The arrays of a fabric: labels and rows are their fronts.
-use mathlib.Core.Path.{_≡_, sym, _∙_, ap}
+use mathlib.Core.Path.{_≡_, sym, _∙_, ap, ap₂, subst}
 use mathlib.Core.Bool.{Bool, true, false}
+use mathlib.Core.List.{List}
 use Prim.Native.Nat.{ℕ, _*_}
 use lib.ListN.{length, take}
 use Rattle.finite.specs.Lists.{padded}
@@ -8,7 +9,7 @@ use Rattle.finite.proofs.Lists.{padded-front}
 use Rattle.nodes.specs.Limits.{maxNodes}
 use Rattle.rows.specs.Tables.{tableSize}
 use Rattle.rows.proofs.Meaning.{rows-length}
-use Rattle.cabling.specs.Cabling.{Cabling, links}
+use Rattle.cabling.specs.Cabling.{Cabling, cabled, Good, links}
 use Rattle.fabric.specs.declared.Fabric.{Fabric}
 use Rattle.fabric.specs.Fabric.{labelsFor, labelFor, rowsFor, fabricOf}
 use Rattle.fabric.proofs.Labels.{labels-length}
@@ -35,3 +36,11 @@ module _ (c : Cabling) {f : Fabric} (e : f ≡ fabricOf c) where
 
   pub rows-size : (class : Bool) → length (rowsFor c class) ≡ f .nodes * f .nodes
   rows-size class = rows-length (c .nodes) (c .nodes) (links c) (labelFor c) class ∙ ap (λ (n : ℕ). n * n) (sym fabric-nodes)
+
+  -- the fabric's N and the pairs are the cabling
+  pub cabling-of : {pairs : List ℕ} → pairs ≡ c .pairs → cabled (f .nodes) pairs ≡ c
+  unfolding fabricOf
+  cabling-of q = ap₂ (λ (x : Fabric) (y : List ℕ). cabled (x .nodes) y) e q
+
+  pub full-asks : {pairs : List ℕ} → Good c → pairs ≡ c .pairs → Good (cabled (f .nodes) pairs) × (f ≡ fabricOf (cabled (f .nodes) pairs))
+  full-asks g q = let k = sym (cabling-of q) in (subst Good k g, e ∙ ap fabricOf k)

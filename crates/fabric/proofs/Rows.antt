@@ -22,7 +22,7 @@ use Rattle.rows.proofs.Meaning.{rows-length, rows-at}
 use Rattle.cabling.specs.Cabling.{Cabling, Good, links}
 use Rattle.cabling.proofs.Joined.{good-network}
 use Rattle.fabric.specs.Fabric.{labelFor, rowsFor}
-use Rattle.fabric.specs.Words.{RowsBy, FreeRows, FallingRows}
+use Rattle.fabric.specs.Rows.{RowsBy, FreeRows, FallingRows}
 use Rattle.fabric.proofs.Labels.{good-climbing}
 
 -- two tables of the same words are equal

@@ -1,2 +1,2 @@
 pub mod Fabric
-pub mod Words
+pub mod Rows

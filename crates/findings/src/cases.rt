@@ -79,13 +79,13 @@ fn tell_tree(name: &[u8], n: u8, in_a_path: bool)
 {
     let mut buffer = [0u8; ROOM];
     let end = tree(n, in_a_path, &mut buffer);
-    tell(name, inputs::front(&buffer, end));
+    tell(name, slices::front(&buffer, end));
 }
 
 fn tell_many(name: &[u8]) {
     let mut buffer = [0u8; ROOM];
     let end = many(&mut buffer);
-    tell(name, inputs::front(&buffer, end));
+    tell(name, slices::front(&buffer, end));
 }
 
 // The network of n nodes and these pairs.
@@ -95,14 +95,14 @@ fn tell_pairs(name: &[u8], n: u8, pairs: &[u8])
     let mut buffer = [0u8; ROOM];
     let at = head(n, pairs.len() / 2, &mut buffer);
     let end = laid::put(&mut buffer, at, pairs);
-    tell(name, inputs::front(&buffer, end));
+    tell(name, slices::front(&buffer, end));
 }
 
 fn tell_no_messages() {
     let mut buffer = [0u8; ROOM];
     let end = tree(2, true, &mut buffer);
     io::write_all(1, b"no messages: ");
-    inputs::tell_drained(inputs::front(&buffer, end), b"");
+    inputs::tell_drained(slices::front(&buffer, end), b"");
 }
 
 pub fn tell_all() {

@@ -1,12 +1,7 @@
-// What the programs are given: the front of a buffer, and Drain's input.
+// What the programs are given: Drain's input.
 
 // More than any input and any line here takes.
 pub const ROOM: usize = 2048;
-
-// The first n bytes; all where there are fewer.
-pub fn front(s: &[u8], n: usize) -> &[u8] {
-    if s.len() < n { s } else { &s[0..n] }
-}
 
 // RULES 10.4: "an image's length (16 bits, low byte first), the image, a seed of 32 bits (low byte first) and pairs", for seed 0
 fn for_drain(image: &[u8], messages: &[u8], buffer: &mut [u8]) -> usize {
@@ -24,6 +19,6 @@ pub fn tell_drained(image: &[u8], messages: &[u8]) {
     let mut input = [0u8; ROOM];
     let end = for_drain(image, messages, &mut input);
     let mut out = [0u8; drained::LONGEST];
-    let written = drained::output(front(&input, end), &mut out);
+    let written = drained::output(slices::front(&input, end), &mut out);
     lines::say(written, &out);
 }

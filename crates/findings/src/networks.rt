@@ -16,16 +16,12 @@ struct Entry {
     next: usize,
 }
 
-fn byte(table: &[u8], at: usize) -> u8 {
-    if at < table.len() { table[at] } else { 0 }
-}
-
 // The place behind the list whose length stands at place `at`.
 fn behind(table: &[u8], at: usize) -> usize
     requires { ⌜ at ≤ 4096 ⌝ }
     ensures { λ r. ⌜ (at < r) × (r ≤ at + 256) ⌝ }
 {
-    at + 1 + byte(table, at) as usize
+    at + 1 + slices::byte(table, at) as usize
 }
 
 // The list whose length stands at place `at`.
@@ -34,7 +30,7 @@ fn list(table: &[u8], at: usize) -> &[u8] {
         return &table[..0];
     }
     let from = at + 1;
-    let size = byte(table, at) as usize;
+    let size = slices::byte(table, at) as usize;
     if table.len() - from < size {
         return &table[..0];
     }
@@ -47,7 +43,7 @@ fn entry_at(table: &[u8], at: usize) -> Entry
     requires { ⌜ at ≤ 472 ⌝ }
     ensures { λ r. ⌜ (at < r .next) × (r .next ≤ 4096) ⌝ }
 {
-    let nodes = byte(table, at) as usize;
+    let nodes = slices::byte(table, at) as usize;
     let pairs = at + 1;
     let free = behind(table, pairs) + nodes + 3;
     let falling = behind(table, free);
@@ -72,7 +68,7 @@ fn tell_bytes(word: &[u8], bytes: &[u8]) {
     let start = laid::put(&mut out, 0, word);
     let fields = lines::byte_fields(&mut out, start, bytes);
     let end = laid::byte(&mut out, fields, 10);
-    io::write_all(1, inputs::front(&out, end));
+    io::write_all(1, slices::front(&out, end));
 }
 
 fn tell_image(image: &[u8], listed: &[u8]) {
@@ -100,7 +96,7 @@ fn tell_messages(image: &[u8], messages: &[u8]) {
     let look = [seeds::look(seeds::next_seed(0), messages.len() / 2)];
     let mut out = [0u8; ROOM];
     let end = lines::line(&mut out, 0, b"looks", &look);
-    io::write_all(1, inputs::front(&out, end));
+    io::write_all(1, slices::front(&out, end));
 }
 
 // Writes an image of the entry's network; answers its length, 0 where it is refused.
@@ -127,9 +123,9 @@ fn tell_full(table: &[u8], e: Entry, image: &[u8]) {
 
 fn tell_entry(table: &[u8], e: Entry, buffer: &mut [u8]) {
     let links = laid(table, e, false, buffer);
-    tell_links(table, e, inputs::front(buffer, links));
+    tell_links(table, e, slices::front(buffer, links));
     let full = laid(table, e, true, buffer);
-    tell_full(table, e, inputs::front(buffer, full));
+    tell_full(table, e, slices::front(buffer, full));
 }
 
 // Every entry.

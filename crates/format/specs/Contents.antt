@@ -27,8 +27,8 @@ offsetAt b i = numberAt b (4 + 6 * i)
 abbrev pub lengthAt : List ℕ → ℕ → ℕ
 lengthAt b i = numberAt b (6 + 6 * i)
 
--- RULES 6.3: "A step answers that entry's kind, second byte, offset and length as they are stored"; "Where byte 1 or any of the six bytes is missing, or the
--- number is not below byte 1, it answers none"
+-- RULES 6.3: "A step answers that entry's kind, second byte, offset and length as they are stored"; "Where the image has no byte 1, where byte 1 is
+-- not above the number, or where the image ends before the entry's sixth byte, it answers none"
 unfoldable pub entryOf : List ℕ → ℕ → Entry
 entryOf b i =
     elim (below 1 (length b) & below i (getD b 1 0) & leb (8 + 6 * i) (length b)) [
@@ -59,10 +59,11 @@ linksKinds = 1
 abbrev pub fullKinds : ℕ
 fullKinds = 4
 
--- the cabling that kind 1 holds, RULES 6.2: "N, a zero byte, then the pairs"
+-- where the body of kind 1 begins, RULES 6.1: "the first directly behind the contents"
 abbrev pub bodyStart : List ℕ → ℕ
 bodyStart b = 2 + 6 * getD b 1 0
 
+-- the cabling that it holds, RULES 6.2: "N, a zero byte, then the pairs"
 abbrev pub nodesIn : List ℕ → ℕ
 nodesIn b = getD b (bodyStart b) 0
 

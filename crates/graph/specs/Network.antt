@@ -36,14 +36,16 @@ pub record From (n : ℕ) (edge : ℕ → ℕ → Bool) (p : ℕ → Bool) (v : 
   pub fact : p start ≡ true
   pub walk : Walk edge start v
 
--- any two members of R are joined by a walk inside R; so one node alone is connected
+-- RULES 3.4: "A graph is connected when each of its nodes can be reached from each other one over its links.": any two members of R are joined by a walk
+-- inside R; so one node alone is connected
 abbrev pub Connected : (ℕ → ℕ → Bool) → (ℕ → Bool) → Type 0
 Connected edge R = (a b : ℕ) → R a ≡ true → R b ≡ true → Walk (among R edge) a b
 
--- RULES 3.4: "A cut node of a connected graph is a node without which it is no longer connected."
+-- RULES 3.4: "A cut node of a connected graph is a node without which it is no longer connected."; here neither that R is connected nor that v is in R is
+-- asked
 abbrev pub CutNode : (ℕ → ℕ → Bool) → (ℕ → Bool) → ℕ → Type 0
 CutNode edge R v = Connected edge (without R v) → ⊥
 
--- the number of v's neighbours in R
+-- RULES 4.2: "remaining degree", R being the remaining nodes: the number of v's neighbours in R
 unfoldable pub degree : ℕ → (ℕ → ℕ → Bool) → (ℕ → Bool) → ℕ → ℕ
 degree n edge R v = count n (λ u. R u & edge v u)

@@ -24,7 +24,7 @@ use Rattle.format.specs.Contents.{inOrder, linksKinds, fullKinds, nodesIn, zero
 use Rattle.format.specs.Bytes.{sameBodies}
 use Rattle.format.proofs.Order.{in-order-one}
 use Rattle.image.specs.Image.{bodiesOf, cablingIn}
-use Rattle.image.specs.Calls.{andThen, frontFault, cablingFault, tablesFault, linksFault, imageFault}
+use Rattle.image.specs.Faults.{andThen, frontFault, cablingFault, tablesFault, linksFault, imageFault}
 
 -- ---- one check after the other
 

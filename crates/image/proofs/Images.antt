@@ -22,8 +22,8 @@ use Rattle.format.proofs.Bodies.{same-bodies-iff}
 use Rattle.format.proofs.First.{in-order-image, from-nodes, from-zero, from-pairs}
 use Rattle.image.specs.Longest.{longestImage}
 use Rattle.image.specs.Image.{bodiesOf, imageOf, kindsOf, cablingIn}
-use Rattle.image.specs.Calls.{cablingFault, tablesFault, linksFault, imageFault}
-use Rattle.image.proofs.Pieces.{links-size, full-size}
+use Rattle.image.specs.Faults.{cablingFault, tablesFault, linksFault, imageFault}
+use Rattle.image.proofs.Sizes.{links-size, full-size}
 use Rattle.image.proofs.Faults.{then-fine, and-then-fine, front-fine, cabling-good, tables-fine, tables-same, links-ordered, links-fine, image-full, image-links, image-ordered, not-both}
 
 -- ---- how long they are

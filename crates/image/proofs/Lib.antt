@@ -1,5 +1,5 @@
 pub mod Faults
 pub mod Agreeing
-pub mod Pieces
+pub mod Sizes
 pub mod Meaning
 pub mod Images

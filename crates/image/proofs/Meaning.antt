@@ -20,7 +20,7 @@ use Rattle.format.specs.Bytes.{sameBodies}
 use Rattle.format.proofs.Order.{in-order-iff}
 use Rattle.format.proofs.Bodies.{same-bodies-iff}
 use Rattle.image.specs.Image.{bodiesOf, cablingIn}
-use Rattle.image.specs.Calls.{cablingFault, linksFault, imageFault}
+use Rattle.image.specs.Faults.{cablingFault, linksFault, imageFault}
 use Rattle.image.specs.Verdicts.{KindOne, count, second, cabling, ByTheRules, OfLinks, broken, ordered, OfEither, neither, links, faulty, differs, full}
 use Rattle.image.proofs.Faults.{then-fine, then-fault, front-count, front-shape, front-fine, tables-fine, tables-differ, links-ordered, links-broken, image-full, image-links, image-ordered}
 

@@ -1,5 +1,4 @@
 pub mod Image
-pub mod Calls
+pub mod Faults
 pub mod Verdicts
-pub mod Laying
 pub mod Longest

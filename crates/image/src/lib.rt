@@ -6,7 +6,7 @@ ghost use Rattle.cabling.specs.Cabling.{Good};
 ghost use Rattle.fabric.specs.Fabric.{fabricOf, bareFabric, madeBy};
 ghost use Rattle.format.specs.Bytes.{sameBodies};
 ghost use Rattle.image.specs.Image.{bodiesOf, cablingIn};
-ghost use Rattle.image.specs.Calls.{andThen, frontFault, cablingFault, tablesFault, imageFault};
+ghost use Rattle.image.specs.Faults.{andThen, frontFault, cablingFault, tablesFault, imageFault};
 use fabric::Made;
 use format::FULL;
 use format::LINKS;

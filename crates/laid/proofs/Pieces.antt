@@ -9,7 +9,7 @@ use lib.Seq.{sets, length-sets, take-at}
 use borrow.Author.Tests.{le-leb, lt-leb}
 use Rattle.finite.proofs.Lists.{sets-append, sets-front}
 use Rattle.laid.specs.Laid.{Page, page, behind}
-use Rattle.laid.specs.Lays.{Lays, Within}
+use Rattle.laid.specs.Lays.{Lays}
 
 -- room, and no room
 module _ (b : List ℕ) (at : ℕ) (s : List ℕ) where
@@ -62,6 +62,11 @@ module _ {b s : List ℕ} {p : Page} (l : Lays b p s) where
       (ap (take (p .at)) lays-placed ∙ take-at s _ (p .at) (sym lays-at), let at = lays-at in omega arith)
 
 -- ---- with a bound on the length
+
+-- the same, at most k bytes
+pub record Within (b : List ℕ) (p : Page) (s : List ℕ) (k : ℕ) : Type 0 where
+  pub lays : Lays b p s
+  pub bound : length s ≤ k
 
 pub within-none : (b : List ℕ) → Within b (page b 0) [] 0
 within-none b = record { lays = lays-none b; bound = zero-le }

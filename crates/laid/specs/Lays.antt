@@ -1,4 +1,4 @@
--- What is laid at the front of a buffer, and a bound on its length: what contracts of private functions cite.
+-- What is laid at the front of a buffer: what contracts of private functions cite.
 use mathlib.Core.Path.{_≡_}
 use mathlib.Core.List.{List}
 use Prim.Native.Nat.{ℕ, _≤_}
@@ -10,8 +10,3 @@ use Rattle.laid.specs.Laid.{Page, page}
 pub record Lays (b : List ℕ) (p : Page) (s : List ℕ) : Type 0 where
   pub is : p ≡ page (sets b 0 s) (length s)
   pub fits : length s ≤ length b
-
--- the same, at most k bytes
-pub record Within (b : List ℕ) (p : Page) (s : List ℕ) (k : ℕ) : Type 0 where
-  pub lays : Lays b p s
-  pub bound : length s ≤ k

@@ -29,7 +29,7 @@ pub fn moved(record: Record, message: usize) -> Stepped
     }
 }
 
-// RULES 8.2: "Start takes a record, which it fills anew, an image (under read's rules) and a list of byte pairs (source, destination)".
+// RULES 8.2: "Start fills a lent record anew, from an image (under read's rules) and a list of byte pairs (source, destination)".
 pub fn start(record: &mut Record, image: &[u8], list: &[u8]) -> Verdict
     ensures { λ r. ⌜ beside r (now («record» .exit)) ≡ startOf (now («record» .entry)) (now (image .entry)) (now (list .entry)) ⌝ }
 {

@@ -8,8 +8,8 @@ use native.Mathlib.Omega.{arith}
 use lib.ListN.{length, getD, drop, replicate, length-replicate}
 use lib.Seq.{drop-cons, drop-length}
 use Rattle.laid.specs.Laid.{Page, page}
-use Rattle.laid.specs.Lays.{Lays, Within}
-use Rattle.laid.proofs.Pieces.{within-none, within-more, within-as}
+use Rattle.laid.specs.Lays.{Lays}
+use Rattle.laid.proofs.Pieces.{Within, within-none, within-more, within-as}
 use Rattle.refusal.specs.declared.Refusal.{Refusal}
 use Rattle.refusal.specs.Number.{numberOf, placeOf}
 use Rattle.text.specs.Text.{decimalOf}

@@ -1,6 +1,6 @@
 -- RULES 10.1: "Fields of a printed line are one space apart, and a line feed ends it."
 use mathlib.Core.List.{List, [], _∷_, _++_}
-use Prim.Native.Nat.{ℕ}
+use Prim.Native.Nat.{ℕ, _+_, _*_}
 use Rattle.laid.specs.Laid.{Page, behind}
 use Rattle.refusal.specs.declared.Refusal.{Refusal}
 use Rattle.refusal.specs.declared.Verdict.{Verdict}
@@ -40,9 +40,9 @@ refusedWord = 114 ∷ 101 ∷ 102 ∷ 117 ∷ 115 ∷ 101 ∷ 100 ∷ []
 unfoldable pub refusalLine : Refusal → List ℕ
 refusalLine r = lineOf refusedWord (numberOf r ∷ placeOf r ∷ [])
 
--- no longer than this: the word, two numbers of at most 21 digits, and the line feed
+-- no longer than this: the word, two fields of a space and at most 21 digits, and the line feed
 abbrev pub longestRefusal : ℕ
-longestRefusal = 52
+longestRefusal = 7 + 2 * (1 + 21) + 1
 
 -- RULES 10.1: "On a refusal it prints only `refused`, number, place.": these bytes, or the line of the refusal
 unfoldable pub orRefused : Verdict → List ℕ → List ℕ

@@ -7,7 +7,7 @@ use refusal::Refusal;
 use results::Written;
 
 // How long the line of a refusal is at the most.
-pub const LONGEST_REFUSAL: usize = 52;
+pub const LONGEST_REFUSAL: usize = 7 + 2 * (1 + 21) + 1;
 
 // A further field: a space, and the number.
 pub fn field(buffer: &mut [u8], at: usize, n: usize) -> usize

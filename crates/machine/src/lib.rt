@@ -17,7 +17,7 @@ use messages::MAX_MESSAGES;
 use refusal::Refusal;
 
 // A move's answer beside the count of moves after it.
-pub struct Counted {
+pub struct Answered {
     pub moves: usize,
     pub answer: Answer,
 }
@@ -48,17 +48,17 @@ pub fn step_in<'a>(
     delivered: &mut [u8],
     holders: &mut [u16],
     message: usize,
-) -> Counted
+) -> Answered
     ensures { λ r. ⌜ with (packed nodes messages (r .moves) (now (labels .entry)) (now (free .entry)) (now (falling .entry)) (now (targets .entry)) (now (heads .exit)) (now (classes .exit)) (now (delivered .exit)) (now (holders .exit))) (r .answer) ≡ stepIn span (packed nodes messages moves (now (labels .entry)) (now (free .entry)) (now (falling .entry)) (now (targets .entry)) (now (heads .entry)) (now (classes .entry)) (now (delivered .entry)) (now (holders .entry))) message ⌝ }
 {
     if few(messages) <= message {
-        return Counted {
+        return Answered {
             moves,
             answer: Answer::Refused(Refusal::Unknown(0)),
         };
     }
     if ahead::marked(delivered, message) {
-        return Counted {
+        return Answered {
             moves,
             answer: Answer::Already,
         };
@@ -68,7 +68,7 @@ pub fn step_in<'a>(
     if head == target {
         channels::release(holders, span, (message + 1) as u16);
         slices::put(delivered, message, 1);
-        return Counted {
+        return Answered {
             moves: count(moves),
             answer: Answer::Delivered,
         };
@@ -79,7 +79,7 @@ pub fn step_in<'a>(
     let holder = channels::held(holders, c) as usize;
     if holder != 0 {
         let by = holder - 1;
-        return Counted {
+        return Answered {
             moves,
             answer: Answer::Blocked(by),
         };
@@ -91,7 +91,7 @@ pub fn step_in<'a>(
         message,
         ahead::class_after(labels, class, head, next),
     );
-    Counted {
+    Answered {
         moves: count(moves),
         answer: Answer::Moved,
     }

@@ -7,7 +7,7 @@ use Rattle.nodes.specs.Limits.{maxNodes}
 use Rattle.messages.specs.Sizes.{maxMessages, maxPairs}
 use Rattle.messages.specs.declared.Record.{Record}
 
--- byte 2 m of the list is the source of message m, byte 2 m + 1 its destination
+-- RULES 8.2: "a list of byte pairs (source, destination)": byte 2 m of it is the source of message m, byte 2 m + 1 its destination
 abbrev pub sourceIn : List ℕ → ℕ → ℕ
 sourceIn list m = getD list (2 * m) 0
 
@@ -17,7 +17,7 @@ targetIn list m = getD list (2 * m + 1) 0
 unfoldable pub zeros : ℕ → List ℕ
 zeros n = replicate n 0
 
--- every message stands free at its source, nothing is delivered, no channel is held, and no move is made
+-- every message stands free at its source, nothing is delivered, no channel is held, and, RULES 8.2: "The number of moves is 0 again."
 unfoldable pub begunOf : ℕ → List ℕ → List ℕ → List ℕ → List ℕ → Record
 begunOf n labels free falling list = record {
   nodes = n;

@@ -25,7 +25,8 @@ pub record Tabled (n : ℕ) (edge : ℕ → ℕ → Bool) (labels free falling :
   pub free-rows : (v t : ℕ) → v < n → t < n → getD free (v * n + t) 0 ≡ entry n edge (labelIn labels) t true v
   pub falling-rows : (v t : ℕ) → v < n → t < n → getD falling (v * n + t) 0 ≡ entry n edge (labelIn labels) t false v
 
--- RULES 8.2: "a list of byte pairs (source, destination), 0 to 256 of them", each a node
+-- RULES 8.2: "a list of byte pairs (source, destination), 0 to 256 of them", each byte a node. That the pairs are whole is not asked: a last byte
+-- without a second makes no message
 pub record Listed (n : ℕ) (list : List ℕ) : Type 0 where
   pub short : length list ≤ maxList
   pub nodes : (i : ℕ) → i < length list → getD list i 0 < n
@@ -44,7 +45,8 @@ channelsOf v (u ∷ l) = channel v u ∷ channelsOf u l
 unfoldable pub itineraryIn : ℕ → (ℕ → ℕ → Bool) → List ℕ → List ℕ → ℕ → List ℕ
 itineraryIn n edge labels list m = channelsOf (sourceIn list m) (routeIn n edge labels list m)
 
--- RULES 2.3: "the sum, over all messages, of (shortest lawful hops + 1)"
+-- RULES 2.3: "the sum, over all messages, of (shortest lawful hops + 1)": of each the hops of its route, plus one; that these are the shortest is
+-- `sum-of-shortest` (proofs/Total)
 unfoldable pub allMoves : ℕ → (ℕ → ℕ → Bool) → List ℕ → List ℕ → ℕ
 allMoves n edge labels list = sumTo (messagesIn list) (λ m. length (routeIn n edge labels list m) + 1)
 

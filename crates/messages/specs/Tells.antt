@@ -6,7 +6,7 @@ use Prim.Native.Nat.{ℕ, suc, _≤_, _<_}
 use lib.ListN.{length, getD}
 use Rattle.finite.specs.Truth.{same}
 use Rattle.refusal.specs.declared.Refusal.the-variants.{Unknown}
-use Rattle.claims.specs.Claims.{Progress, Keeps, holds, wanted, taking, finishing, Lawful, made}
+use Rattle.claims.specs.Claims.{Progress, Keeps, holds, wanted, taking, finishing, WithinItinerary, made}
 use Rattle.messages.specs.declared.Record.{Record}
 use Rattle.messages.specs.declared.Answer.{Answer}
 use Rattle.messages.specs.declared.Answer.the-variants.{Already, Moved, Blocked, Delivered, Refused}
@@ -21,7 +21,7 @@ keeps m i j = true
 -- the record says that message m is `taken m` hops along its route and whether it is delivered, and holds just the channels of those hops until it is;
 -- a channel's holder is 0 or one of the messages plus 1; and the moves are those made
 pub record Says (n : ℕ) (edge : ℕ → ℕ → Bool) (labels list : List ℕ) (r : Record) (s : Progress) : Type 0 where
-  pub lawful : Lawful (messagesIn list) (itineraryIn n edge labels list) s
+  pub lawful : WithinItinerary (messagesIn list) (itineraryIn n edge labels list) s
   pub at : (m : ℕ) → m < messagesIn list → head r m ≡ getD (sourceIn list m ∷ routeIn n edge labels list m) (s .taken m) 0
   pub done : (m : ℕ) → m < messagesIn list → isDelivered r m ≡ s .done m
   pub held : (c m : ℕ) → m < messagesIn list → same (holder r c) (suc m) ≡ holds (itineraryIn n edge labels list) keeps s m c

@@ -10,7 +10,7 @@ use Rattle.finite.specs.Lists.{tabulate}
 use Rattle.graph.specs.Network.{among, avoid}
 use Rattle.nodes.specs.Limits.{maxNodes}
 
--- the pair (x, y) joins a and b: links are undirected, and no node is linked to itself
+-- RULES 3.1: "A link has no direction. No node is linked to itself": the pair (x, y) joins a and b
 unfoldable pub joins : ℕ → ℕ → ℕ → ℕ → Bool
 joins x y a b = non (same x y) & (same x a & same y b or same x b & same y a)
 

@@ -1,21 +1,20 @@
 -- Laws of a word of n digits as a set of numbers below n: what the code's operations on words mean, and a word's members, size and lowest member.
 -- A node set is such a word, with n = maxNodes. The last laws take a set of the first n numbers to a longer word and back.
-use mathlib.Core.Path.{_≡_, refl, sym, _∙_, ap}
+use mathlib.Core.Path.{_≡_, sym, _∙_, ap}
 use mathlib.Core.Bool.{Bool, true, false}
 use Prim.Native.Nat.{ℕ, _+_, _-_, _*_, _%_, _^_, _≤_, _<_}
 use native.Mathlib.Nat.{one-mul, mod-eq-of-lt, le-of-lt, lt-of-lt-of-le}
 use native.Mathlib.Omega.{arith}
 use lib.Bits.{bitAnd, bitOr}
-use lib.Count.{ones}
 use lib.Pow.{pow-pos, pow-lt, pow-mono}
 use Rattle.finite.specs.Truth.{_&_, _or_, non, same, below}
 use Rattle.finite.specs.Sum.{count}
 use Rattle.finite.specs.Search.{least}
 use Rattle.finite.specs.Sets.{has, setOf, without}
 use Rattle.finite.proofs.Truth.{bcase, refute, true-non, ne-same, below-lt, below-le, lt-below}
-use Rattle.finite.proofs.Sum.{sum-without, count-cong, count-none, count-member}
-use Rattle.finite.proofs.Search.{least-fact, least-before, least-found, least-unique, least-cong}
-use Rattle.finite.proofs.Sets.{has-lt, has-0, has-setOf, setOf-out, setOf-lt, setOf-cong, setOf-has, set-ext, set-empty, and-set, or-set, not-set, one-set, ones-count, without-other}
+use Rattle.finite.proofs.Sum.{sum-without, count-cong}
+use Rattle.finite.proofs.Search.{least-fact, least-before, least-cong}
+use Rattle.finite.proofs.Sets.{has-lt, has-0, has-setOf, setOf-out, setOf-lt, setOf-cong, setOf-has, set-ext, set-empty, and-set, or-set, not-set, one-set, without-other}
 
 -- ---- what the operations on words mean
 
@@ -70,18 +69,7 @@ without-none n w v h f = set-ext n w (without (has w) v) h (λ u l. sym (without
 
 -- ---- size and lowest member
 
--- the size is 0 for the empty word alone
-pub empty-size : (n : ℕ) → count n (has 0) ≡ 0
-empty-size n = count-none n (has 0) (λ v l. has-0 v)
-
-pub size-empty : (n w : ℕ) → w < 2 ^ n → count n (has w) ≡ 0 → w ≡ 0
-size-empty n w h e =
-    set-empty n w h (λ v l. refute (has w v) (λ t. let k = count-member n (has w) v l t in omega arith))
-
--- the lowest member of the empty word is n, and that of any other is below n and a member
-pub empty-lowest : (n : ℕ) → least n (has 0) ≡ n
-empty-lowest n = least-unique n (has 0) n (omega arith) (λ l. absurd (omega arith)) (λ v l. has-0 v)
-
+-- the lowest member of a word that is not empty is below n and a member
 pub lowest-lt : (n w : ℕ) → w < 2 ^ n → (w ≡ 0 → ⊥) → least n (has w) < n
 lowest-lt n w h z =
     bcase (below (least n (has w)) n) (λ l. below-lt _ _ l)
@@ -112,22 +100,11 @@ size-setOf n p = count-cong n (has (setOf n p)) p (has-setOf n p)
 pub lowest-setOf : (n : ℕ) (p : ℕ → Bool) → least n (has (setOf n p)) ≡ least n p
 lowest-setOf n p = least-cong n (has (setOf n p)) p (has-setOf n p)
 
--- ---- where only numbers below n pass p, a word of m digits, no fewer, has the same set, size and lowest member
+-- ---- where only numbers below n pass p, a word of m digits, no fewer, has the same set
 
 module _ (n m : ℕ) (p : ℕ → Bool) (l : n ≤ m) (h : (v : ℕ) → p v ≡ true → v < n) where
   pub setOf-within : setOf m p ≡ setOf n p
   setOf-within = sym (set-ext m (setOf n p) p (lt-of-lt-of-le (setOf-lt n p) (pow-mono l)) (λ v k. has-all n p h v))
-
-  pub count-within : count m p ≡ count n p
-  count-within =
-      sym (size-setOf m p) ∙ sym (ones-count m (setOf m p) (setOf-lt m p)) ∙ ap ones setOf-within
-      ∙ ones-count n (setOf n p) (setOf-lt n p) ∙ size-setOf n p
-
-  pub least-within : (v : ℕ) → p v ≡ true → least m p ≡ least n p
-  least-within v t =
-      let k = h v t in
-      let f = least-found n p v t in
-      least-unique m p (least n p) (omega arith) (λ j. least-fact n p (omega arith)) (least-before n p)
 
 -- ---- the first k of n numbers
 

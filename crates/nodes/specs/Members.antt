@@ -1,7 +1,8 @@
 -- What a node set holds.
 use Prim.Native.Nat.{ℕ}
 
--- the members of a set as one number: node v is one where binary digit v is 1. A set of one word is that number.
+-- RULES 3.2: "one 64-bit word, whose bit v is node v": the members of a set as one number, of which node v is one where binary digit v is 1. A set of one
+-- word is that number.
 abbrev pub members : ℕ → ℕ
 members w = w
 

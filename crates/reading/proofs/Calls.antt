@@ -1,8 +1,7 @@
--- Sentences about calls: a good cabling is never refused but for want of room, reading and writing are exact inverses, build writes what write writes, and 9 is given exactly when.
+-- Sentences about read: reading and writing are exact inverses, and 9 is given exactly when.
 use mathlib.Core.Path.{_≡_, sym, _∙_, ap, ap₂}
-use mathlib.Core.Bool.{Bool, false}
+use mathlib.Core.Bool.{Bool}
 use mathlib.Core.List.{List}
-use mathlib.Core.Logic.{_↔_}
 use Prim.Native.Nat.{ℕ, _*_, _/_, _≤_, _<_}
 use native.Mathlib.Omega.{arith}
 use lib.ListN.{length, take}
@@ -12,28 +11,23 @@ use Rattle.refusal.specs.declared.Verdict.{Verdict}
 use Rattle.refusal.specs.declared.Verdict.the-variants.{Fine}
 use Rattle.cabling.specs.Cabling.{Cabling, cabled, Good}
 use Rattle.cabling.specs.Faults.{faultOf}
-use Rattle.cabling.proofs.Meaning.{fault-fine, fault-not-short}
-use Rattle.format.specs.Contents.{linksKinds, fullKinds, pairsIn}
+use Rattle.cabling.proofs.Meaning.{fault-fine}
+use Rattle.format.specs.Contents.{pairsIn}
 use Rattle.results.specs.declared.Written.{Written}
-use Rattle.results.specs.declared.Written.the-variants.{Bytes, NotWritten}
+use Rattle.results.specs.declared.Written.the-variants.{Bytes}
 use Rattle.results.specs.Written.{placed, writtenOf, writtenInto, Writes}
 use Rattle.results.proofs.Meaning.{short-means}
 use Rattle.results.proofs.Placed.{written-whole}
 use Rattle.image.specs.Image.{imageOf, kindsOf, cablingIn}
-use Rattle.image.specs.Calls.{linksFault, imageFault}
+use Rattle.image.specs.Faults.{imageFault}
 use Rattle.reading.specs.Reads.{outcomeOf, Reads}
 use Rattle.reading.specs.declared.Outcome.{Outcome}
 use Rattle.reading.specs.declared.Outcome.the-variants.{Read, NotRead}
 use Rattle.reading.proofs.Reading.{read-front, read-refused, outcome-refused}
-use Rattle.image.proofs.Images.{read-kind, read-cabling, links-accepted, image-accepted, accepted-good, accepted}
-use Rattle.image.proofs.Meaning.{links-not-short, image-not-short}
+use Rattle.image.proofs.Images.{read-kind, read-cabling, image-accepted, accepted-good, accepted}
+use Rattle.image.proofs.Meaning.{image-not-short}
 
 module _ (c : Cabling) (g : Good c) {before after : List ℕ} where
-  -- RULES 2.2: "Connected cabling inside the limits, given room, is never refused."
-  pub never-refused : (full : Bool) {r : Written} → length (imageOf (kindsOf full) c) ≤ length before
-      → Writes (faultOf c) (imageOf (kindsOf full) c) before r after → (r ≡ Bytes (length (imageOf (kindsOf full) c))) × (after ≡ placed (imageOf (kindsOf full) c) before)
-  never-refused full h w = written-whole (fault-fine c .1 g) h w
-
   -- the read call gives back N, M and the kind of what was written, and leaves the pairs at the buffer's front
   pub read-written : (full : Bool) {r : Outcome} → length (c .pairs) ≤ length before → Reads (imageOf (kindsOf full) c) before r after
       → (r ≡ Read (c .nodes) (length (c .pairs) / 2) full) × (after ≡ placed (c .pairs) before)
@@ -48,14 +42,6 @@ module _ (c : Cabling) (g : Good c) {before after : List ℕ} where
             ∙ rw (l, writtenOf) (ap₂ (λ (x : ℕ) (f : Bool). Read x (length (c .pairs) / 2) f) n (read-kind c g full)),
         w .leaves ∙ ap₂ (λ (v : Verdict) (x : List ℕ). writtenInto v x before) fine p ∙ rw (l, writtenInto),
       )
-
-  -- the full image that build writes of the links image is the one that write writes: the same answer and the same buffer
-  pub build-as-write : {r : Written} → let b = imageOf linksKinds c in
-      Writes (linksFault b) (imageOf fullKinds (cablingIn b)) before r after ↔ Writes (faultOf c) (imageOf fullKinds c) before r after
-  build-as-write {r} =
-      let v = links-accepted c g ∙ sym (fault-fine c .1 g) in
-      let e = ap (imageOf fullKinds) (read-cabling c g false) in
-      (λ w. rw v at (rw e at w), λ w. rw (v, e) w)
 
 -- writing what was read gives back the same bytes: N, the pairs that read left at the front, and the kind, with room, write the image that was read
 pub write-read : (b before after : List ℕ) (n m : ℕ) (full : Bool) → Reads b before (Read n m full) after
@@ -74,14 +60,6 @@ write-read b before after n m full c {room} {left} {r} h w =
     written-whole (ap faultOf e ∙ fault-fine (cablingIn b) .1 g) h (rw i at w)
 
 -- ---- 9, RULES 9.1, "given exactly when": the verdict is fine and the result is longer than the buffer
-
-pub write-short : (c : Cabling) (full : Bool) (room : ℕ)
-    → (writtenOf (faultOf c) (imageOf (kindsOf full) c) room ≡ NotWritten Short) ↔ ((faultOf c ≡ Fine) × (room < length (imageOf (kindsOf full) c)))
-write-short c full room = short-means _ room (faultOf c) (fault-not-short c)
-
-pub build-short : (b : List ℕ) (room : ℕ)
-    → (writtenOf (linksFault b) (imageOf fullKinds (cablingIn b)) room ≡ NotWritten Short) ↔ ((linksFault b ≡ Fine) × (room < length (imageOf fullKinds (cablingIn b))))
-build-short b room = short-means _ room (linksFault b) (links-not-short b)
 
 pub read-short : (b before after : List ℕ) → Reads b before (NotRead Short) after → (imageFault b ≡ Fine) × (length before < length (pairsIn b))
 read-short b before after c = short-means _ _ (imageFault b) (image-not-short b) .0 (read-refused b before after Short c)

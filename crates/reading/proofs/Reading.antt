@@ -13,7 +13,7 @@ use Rattle.results.specs.declared.Written.{Written}
 use Rattle.results.specs.declared.Written.the-variants.{Bytes, NotWritten}
 use Rattle.results.specs.Written.{writtenOf, Writes}
 use Rattle.results.proofs.Meaning.{refused-untouched, written-front, not-refused, written-size}
-use Rattle.image.specs.Calls.{imageFault}
+use Rattle.image.specs.Faults.{imageFault}
 use Rattle.reading.specs.Reads.{outcomeOf, Reads}
 use Rattle.reading.specs.declared.Outcome.{Outcome}
 use Rattle.reading.specs.declared.Outcome.the-variants.{Read, NotRead}

@@ -8,7 +8,7 @@ use Rattle.format.specs.Bytes.{AllBytes}
 use Rattle.results.specs.declared.Written.{Written}
 use Rattle.results.specs.declared.Written.the-variants.{Bytes, NotWritten}
 use Rattle.results.specs.Written.{writtenOf, writtenInto}
-use Rattle.image.specs.Calls.{imageFault}
+use Rattle.image.specs.Faults.{imageFault}
 use Rattle.reading.specs.declared.Outcome.{Outcome}
 use Rattle.reading.specs.declared.Outcome.the-variants.{Read, NotRead}
 

@@ -1,4 +1,4 @@
--- Number and place tell the refusals apart.
+-- The promises of `number` and `place` determine their answers, and number and place tell the refusals apart.
 use mathlib.Core.Path.{_≡_, refl, sym, _∙_, ap₂}
 use mathlib.Core.List.{[], _∷_}
 use Prim.Native.Nat.{ℕ}
@@ -24,5 +24,12 @@ back Short = refl
 back (Unknown p) = refl
 back Messages = refl
 
-pub refusal-determined : (r s : Refusal) → numberOf r ≡ numberOf s → placeOf r ≡ placeOf s → r ≡ s
-refusal-determined r s n p = sym (back r) ∙ ap₂ refusalAt n p ∙ back s
+pub number-determined : (r : Refusal) (m n : ℕ) → m ≡ numberOf r → n ≡ numberOf r → m ≡ n
+number-determined r m n p q = p ∙ sym q
+
+pub place-determined : (r : Refusal) (m n : ℕ) → m ≡ placeOf r → n ≡ placeOf r → m ≡ n
+place-determined r m n p q = p ∙ sym q
+
+-- no two refusals share both
+pub refusal-unique : (r s : Refusal) → numberOf r ≡ numberOf s → placeOf r ≡ placeOf s → r ≡ s
+refusal-unique r s n p = sym (back r) ∙ ap₂ refusalAt n p ∙ back s

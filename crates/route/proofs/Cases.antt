@@ -18,7 +18,7 @@ use Rattle.fabric.proofs.Making.{made-verdict, made-fabric}
 use Rattle.fabric.proofs.Parts.{fabric-nodes}
 use Rattle.format.specs.Contents.{nodesIn}
 use Rattle.image.specs.Image.{cablingIn}
-use Rattle.image.specs.Calls.{imageFault}
+use Rattle.image.specs.Faults.{imageFault}
 use Rattle.image.proofs.Faults.{then-fine, then-fault}
 use Rattle.image.proofs.Images.{accepted-good}
 use Rattle.image.proofs.Meaning.{image-not-short}

@@ -18,7 +18,7 @@ use Rattle.results.specs.declared.Written.the-variants.{Bytes, NotWritten}
 use Rattle.results.specs.Written.{placed, writtenOf, writtenInto, Writes}
 use Rattle.results.proofs.Meaning.{short-means}
 use Rattle.image.specs.Image.{cablingIn}
-use Rattle.image.specs.Calls.{imageFault}
+use Rattle.image.specs.Faults.{imageFault}
 use Rattle.image.proofs.Images.{accepted-good}
 use Rattle.route.specs.Route.{routeFault, routeBytes}
 use Rattle.route.proofs.Cases.{not-refused, route-not-short}

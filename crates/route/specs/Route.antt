@@ -9,7 +9,7 @@ use Rattle.refusal.specs.declared.Verdict.the-variants.{Fine, Fault}
 use Rattle.fabric.specs.Fabric.{routeFor}
 use Rattle.format.specs.Contents.{nodesIn}
 use Rattle.image.specs.Image.{cablingIn}
-use Rattle.image.specs.Calls.{andThen, imageFault}
+use Rattle.image.specs.Faults.{andThen, imageFault}
 
 -- 10, RULES 9.1: "Route: a node ≥ N.", at place 0
 unfoldable pub endsFault : List ℕ → ℕ → ℕ → Verdict

@@ -12,7 +12,7 @@ use Rattle.finite.proofs.Sets.{has-0, has-setOf}
 use Rattle.nodes.specs.Limits.{maxNodes}
 use Rattle.network.specs.Table.{edgeOf}
 use Rattle.network.proofs.Table.{edge-tableFrom}
-use Rattle.rows.specs.Steps.{leadsTo, leadOf, intoOf, touches, Worth, Asking, startOf, halfOf, roundOf}
+use Rattle.rows.specs.Steps.{leadsTo, leadOf, intoOf, touches, Worth, Asking, searchFrom, halfOf, roundOf}
 use Rattle.rows.specs.declared.Side.{Side}
 use Rattle.rows.specs.declared.Search.{Search}
 
@@ -37,9 +37,9 @@ module _ (up down : List ℕ) where
     pub falling : Only 0 (s .falling .members) (s .falling .members) 0 newFalling
 
   -- before the first round all that has joined is new
-  pub frontier-none : (t : ℕ) {s : Search} {newFree newFalling : ℕ} → s ≡ startOf t → newFree ≡ setOf maxNodes (same t) → newFalling ≡ setOf maxNodes (same t)
+  pub frontier-none : (t : ℕ) {s : Search} {newFree newFalling : ℕ} → s ≡ searchFrom t → newFree ≡ setOf maxNodes (same t) → newFalling ≡ setOf maxNodes (same t)
       → Frontier s newFree newFalling
-  unfolding startOf
+  unfolding searchFrom
   frontier-none t e f g = rw (e, f, g) (record { free = λ v u k l j h. h; falling = λ v u k l j h. h })
 
   -- a node that half a round leaves outside led nowhere before it

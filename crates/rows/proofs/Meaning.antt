@@ -1,4 +1,4 @@
--- What the tables hold, by RULES 5: byte v * m + t is the first node after v on a shortest way to t, the lowest that begins one, and 255 where there is none.
+-- How long the rows of m nodes are, and what stands in them: byte v * m + t is the entry of v for t.
 use mathlib.Core.Path.{_≡_, _∙_}
 use mathlib.Core.Bool.{Bool}
 use Prim.Native.Nat.{ℕ, _+_, _*_, _<_}

@@ -22,7 +22,7 @@ use Rattle.lawful.specs.Turn.{rises, falls}
 use Rattle.lawful.specs.Entry.{Layer, leads, joining, layer, lowestLead, none, entry}
 use Rattle.lawful.proofs.Layers.{side, layer-ext, layer-lt, layer-none, layer-more, layer-grow, layer-still, layer-rest}
 use Rattle.lawful.proofs.Entries.{entry-self, entry-joins, entry-never}
-use Rattle.rows.specs.Steps.{pick, rounds, waysOf, startOf, leadOf, halfOf, roundOf, sideAt, searchAt, OfWays, columnOf}
+use Rattle.rows.specs.Steps.{pick, rounds, waysOf, searchFrom, leadOf, halfOf, roundOf, sideAt, searchAt, OfWays, columnOf}
 use Rattle.rows.specs.declared.Side.{Side}
 use Rattle.rows.specs.declared.Search.{Search}
 use Rattle.rows.proofs.Joining.{side-ext}
@@ -96,8 +96,8 @@ module _ (edge : ℕ → ℕ → Bool) (label : ℕ → ℕ) where
         (tabulate-ext maxNodes _ 0 (set (replicate maxNodes none) t t) (length-set (replicate maxNodes none) t t)
         (λ v l. first-entries (side c (at 0)) v l (layer-none maxNodes edge label t c v l) c))
 
-    pub start-at : startOf t ≡ searchAt edge label t 0
-    unfolding startOf searchAt
+    pub start-at : searchFrom t ≡ searchAt edge label t 0
+    unfolding searchFrom searchAt
     start-at = search-ext (first-side true) (first-side false)
 
     -- ---- one round
@@ -169,7 +169,7 @@ abbrev pub Searching : ℕ → List ℕ → List ℕ → Search → ℕ → Type
 Searching t up down s k = OfWays up down (λ edge label. s ≡ searchAt edge label t k)
 
 module _ {t : ℕ} {up down : List ℕ} (low : t < maxNodes) where
-  pub searching-none : {s : Search} → s ≡ startOf t → Searching t up down s 0
+  pub searching-none : {s : Search} → s ≡ searchFrom t → Searching t up down s 0
   searching-none e edge label p q = e ∙ start-at edge label t low
 
   next-at : {s next : Search} (k : ℕ) → Searching t up down s k → next ≡ roundOf up down s → Searching t up down next (suc k)

@@ -30,8 +30,8 @@ unfoldable pub waysOf : (ℕ → ℕ → Bool) → (ℕ → ℕ) → Ways
 waysOf edge label = record { up = tableFrom (rises edge label); down = tableFrom (falls edge label) }
 
 -- the destination alone, its own entry
-unfoldable pub startOf : ℕ → Search
-startOf t =
+unfoldable pub searchFrom : ℕ → Search
+searchFrom t =
     let side : Side = record { members = setWith (setOf maxNodes (same t)); entries = set (replicate maxNodes none) t t } in
     record { free = side; falling = side }
 

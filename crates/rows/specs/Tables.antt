@@ -11,7 +11,8 @@ use Rattle.rows.specs.declared.Tables.{Tables}
 abbrev pub tableSize : ℕ
 tableSize = maxNodes * maxNodes
 
--- the rows of m nodes, one after the other, of entries computed at the width w: byte v * m + t is the entry of v for the destination t
+-- RULES 6.2: "row v holds node v's entry for each destination": the rows of m nodes, one after the other, of entries computed at the width w: byte v * m + t
+-- is the entry of v for the destination t
 unfoldable pub rowsOf : ℕ → ℕ → (ℕ → ℕ → Bool) → (ℕ → ℕ) → Bool → List ℕ
 rowsOf w m edge label class = tabulate (m * m) (λ i. entry w edge label (i % m) class (i / m))
 

@@ -9,7 +9,7 @@ ghost use Rattle.nodes.specs.Limits.{maxNodes};
 ghost use Rattle.nodes.specs.Members.{members};
 ghost use Rattle.network.specs.Table.{edgeOf};
 ghost use Rattle.rows.specs.Tables.{tableSize, tablesOf};
-ghost use Rattle.rows.specs.Steps.{waysOf, startOf, enteredOf, intoOf, touches, Worth, Asking, halfOf, roundOf, rounds, searchAt, OfWays, columnOf, placedOf};
+ghost use Rattle.rows.specs.Steps.{waysOf, searchFrom, enteredOf, intoOf, touches, Worth, Asking, halfOf, roundOf, rounds, searchAt, OfWays, columnOf, placedOf};
 use nodes::MAX_NODES;
 use nodes::Set;
 
@@ -55,7 +55,7 @@ struct Search {
 // Before the first round the destination alone has joined.
 fn start(t: usize) -> Search
     requires { ⌜ t < maxNodes ⌝ }
-    ensures { λ r. ⌜ r ≡ startOf t ⌝ }
+    ensures { λ r. ⌜ r ≡ searchFrom t ⌝ }
 {
     let mut entries = [NONE; MAX_NODES];
     entries[t] = t as u8;

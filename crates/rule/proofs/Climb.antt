@@ -1,4 +1,4 @@
--- Each node but the one labelled last has a neighbour with a higher label; and of two remaining nodes the lower number comes first.
+-- Each node but the one labelled last has a neighbour with a higher label; and where two nodes remain, the lower number is chosen.
 use mathlib.Core.Path.{_≡_, refl, sym, _∙_, ap, subst}
 use mathlib.Core.Bool.{Bool, true}
 use mathlib.Core.Logic.{_⊎_, ⊎-elim}
@@ -102,7 +102,7 @@ module _ (n : ℕ) (edge : ℕ → ℕ → Bool) (net : Network n edge) (R : ℕ
       alone : Connected edge (without R a)
       alone x y hx hy = subst (λ (z : ℕ). Walk (among (without R a) edge) x z) (sym (only x hx) ∙ only y hy) here
 
-  -- RULES 4.3: "Of two remaining nodes the lower number comes first."
+  -- RULES 4.3: "Where two nodes remain, that is the lower number."
   pub lower-first : choice n edge R ≡ a
   lower-first =
       let c = choice-chosen n edge R (candidate-exists n edge net R m whole (record { at = a; low = m a ra; fact = ra })) in

@@ -1,4 +1,4 @@
--- RULES 10.4: the order in which Drain looks at messages.
+-- RULES 10.4: the seed of Drain, and where it says to look.
 use mathlib.Core.Bool.{true, false}
 use Prim.Native.Nat.{ℕ, _+_, _*_, _/_, _%_, _^_}
 use Rattle.finite.specs.Truth.{same}

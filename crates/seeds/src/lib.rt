@@ -1,4 +1,4 @@
-// The order in which Drain looks at messages: a seed that wraps at 32 bits, and the place that it names.
+// The seed of Drain, which wraps at 32 bits, and where it says to look.
 ghost use mathlib.Core.Path.{_≡_};
 ghost use Prim.Native.Nat.{_*_, _%_, _^_};
 ghost use Rattle.seeds.specs.Seed.{nextSeed, lookAt};

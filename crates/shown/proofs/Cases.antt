@@ -23,8 +23,8 @@ use Rattle.lines.specs.Lines.{refusalLine, longestRefusal, orRefused}
 use Rattle.lines.proofs.Printed.{lays-prints, fault-prints}
 use Rattle.format.specs.Contents.{pairsIn}
 use Rattle.image.specs.Image.{imageOf, kindsOf, cablingIn}
-use Rattle.image.specs.Calls.{imageFault}
-use Rattle.image.proofs.Pieces.{cabling-of, full-asks}
+use Rattle.image.specs.Faults.{imageFault}
+use Rattle.fabric.proofs.Parts.{cabling-of, full-asks}
 use Rattle.image.proofs.Images.{accepted-good, image-accepted, read-cabling}
 use Rattle.shown.specs.Shows.{reportOf, longestShow, outputOf}
 

@@ -16,8 +16,8 @@ use Rattle.lawful.specs.Entry.{none, entry}
 use Rattle.fabric.specs.Fabric.{labelFor}
 use Rattle.fabric.proofs.Labels.{good-label-le}
 use Rattle.laid.specs.Laid.{Page, page}
-use Rattle.laid.specs.Lays.{Lays, Within}
-use Rattle.laid.proofs.Pieces.{within-none, within-as}
+use Rattle.laid.specs.Lays.{Lays}
+use Rattle.laid.proofs.Pieces.{Within, within-none, within-as}
 use Rattle.text.specs.Text.{decimalOf}
 use Rattle.text.proofs.Decimal.{decimal-bound, decimal-short}
 use Rattle.lines.specs.Lines.{withLine}

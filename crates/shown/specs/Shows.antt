@@ -10,7 +10,7 @@ use Rattle.lawful.specs.Entry.{entry}
 use Rattle.turns.specs.Turns.{allTurns, prohibitedTurns}
 use Rattle.fabric.specs.Fabric.{labelFor}
 use Rattle.image.specs.Image.{cablingIn}
-use Rattle.image.specs.Calls.{imageFault}
+use Rattle.image.specs.Faults.{imageFault}
 use Rattle.text.specs.Text.{decimalOf}
 use Rattle.lines.specs.Lines.{lineOf, orRefused}
 

@@ -18,7 +18,7 @@ use Rattle.fabric.specs.declared.Made.{Made}
 use Rattle.fabric.specs.Fabric.{fabricOf, madeBy}
 use Rattle.fabric.proofs.Making.{made-verdict, made-fabric}
 use Rattle.image.specs.Image.{cablingIn}
-use Rattle.image.specs.Calls.{imageFault}
+use Rattle.image.specs.Faults.{imageFault}
 use Rattle.image.proofs.Faults.{then-fine, then-fault}
 use Rattle.messages.specs.declared.Record.{Record}
 use Rattle.messages.specs.Sizes.{maxList}

@@ -22,7 +22,7 @@ use Rattle.fabric.proofs.Labels.{good-climbing, good-label-le}
 use Rattle.fabric.proofs.Rows.{good-row-at}
 use Rattle.format.specs.Contents.{nodesIn}
 use Rattle.image.specs.Image.{cablingIn}
-use Rattle.image.specs.Calls.{imageFault}
+use Rattle.image.specs.Faults.{imageFault}
 use Rattle.image.proofs.Faults.{and-then-fine}
 use Rattle.image.proofs.Images.{accepted-good}
 use Rattle.messages.specs.declared.Record.{Record}

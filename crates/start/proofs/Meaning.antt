@@ -17,7 +17,7 @@ use Rattle.refusal.specs.declared.Refusal.the-variants.{Unknown}
 use Rattle.refusal.specs.declared.Verdict.{Verdict}
 use Rattle.refusal.specs.declared.Verdict.the-variants.{Fine, Fault}
 use Rattle.format.specs.Contents.{nodesIn}
-use Rattle.image.specs.Calls.{imageFault}
+use Rattle.image.specs.Faults.{imageFault}
 use Rattle.image.proofs.Faults.{then-fine, then-fault}
 use Rattle.image.proofs.Meaning.{either-means}
 use Rattle.messages.specs.Sizes.{maxList}

@@ -13,7 +13,7 @@ use Rattle.fabric.specs.declared.Fabric.{Fabric}
 use Rattle.fabric.specs.Fabric.{fabricOf}
 use Rattle.format.specs.Contents.{nodesIn}
 use Rattle.image.specs.Image.{cablingIn}
-use Rattle.image.specs.Calls.{andThen, imageFault}
+use Rattle.image.specs.Faults.{andThen, imageFault}
 use Rattle.messages.specs.declared.Record.{Record}
 use Rattle.messages.specs.Sizes.{maxList}
 use Rattle.messages.specs.Fresh.{sourceIn, targetIn, begunOf}
@@ -41,7 +41,7 @@ listFault n list =
 abbrev pub startFault : List ℕ → List ℕ → Verdict
 startFault b list = andThen (imageFault b) (listFault (nodesIn b) list)
 
--- RULES 8.2: "a record, which it fills anew", over the labels and rows of a fabric: that of the image's cabling
+-- RULES 8.2: "fills a lent record anew", over the labels and rows of a fabric: that of the image's cabling
 abbrev pub freshIn : Fabric → List ℕ → Record
 freshIn f list = begunOf (f .nodes) (f .labels) (f .free) (f .falling) list
 

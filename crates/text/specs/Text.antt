@@ -1,4 +1,4 @@
--- Numbers in decimal.
+-- RULES 10.1: "Numbers are decimal."
 use mathlib.Core.List.{List}
 use Prim.Native.Nat.{ℕ, suc, _^_}
 use Rattle.finite.specs.Truth.{below}

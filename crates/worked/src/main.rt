@@ -1,5 +1,5 @@
 // The networks worked by hand, as one constant table of bytes: the table of the crate `by_hand`, which proves each of its entries right. The program runs them
-// all, and those marked Run, and prints what it found.
+// all, and those of RULES 11.2, and prints what it found.
 ghost use mathlib.Core.Path.{_≡_};
 ghost use Rattle.by_hand.specs.Networks.{worked};
 ghost use Rattle.worked.specs.Bytes.{flat};

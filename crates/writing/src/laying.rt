@@ -11,7 +11,7 @@ ghost use Rattle.laid.specs.Laid.{page};
 ghost use Rattle.laid.specs.Lays.{Lays};
 ghost use Rattle.results.specs.Written.{Writes};
 ghost use Rattle.image.specs.Image.{imageOf};
-ghost use Rattle.image.specs.Laying.{headOf, frontOf};
+ghost use Rattle.writing.specs.Laying.{headOf, frontOf};
 use fabric::Fabric;
 use refusal::Refusal;
 use results::Written;

@@ -4,7 +4,7 @@ ghost use Rattle.cabling.specs.Faults.{faultOf};
 ghost use Rattle.format.specs.Contents.{fullKinds};
 ghost use Rattle.results.specs.Written.{Writes};
 ghost use Rattle.image.specs.Image.{imageOf, kindsOf, cablingIn};
-ghost use Rattle.image.specs.Calls.{linksFault};
+ghost use Rattle.image.specs.Faults.{linksFault};
 
 mod laying; // laying.rt: the bytes of an image, laid in a lent buffer
 

@@ -1,4 +1,4 @@
--- `draining::drain` meets its contract, and ends: each turn leaves one move less to make of demand 3's sum.
+-- `draining::drain` meets its contract, and ends: each pick leaves one move less to make of demand 3's sum.
 use mathlib.Core.Path.{_≡_, sym, _∙_}
 use mathlib.Core.Bool.{false}
 use Prim.Native.Nat.{_*_, _-_, min}
@@ -13,7 +13,7 @@ use Rattle.machine.specs.InPlace.{packed}
 use Rattle.start.specs.Start.{startFault}
 use Rattle.draining.specs.Drained.{sumOf}
 use Rattle.draining.proofs.Answers.{started-refused, started-fine, started-fresh, drained-is}
-use Rattle.draining.proofs.Running.{Running, running-fresh, running-more, running-less, running-all, running-marks, running-turn}
+use Rattle.draining.proofs.Running.{Running, running-fresh, running-more, running-less, running-all, running-marks, running-pick}
 use borrow.Author.Needs.{needs}
 use Rattle.draining.proofs.drain.Statement.{statement}
 use Rattle.draining.proofs.drain.Tie as tie
@@ -26,7 +26,7 @@ Inv-loop image list seed nodes messages labels free falling targets heads₀ cla
 abbrev μ-loop : tie.MeasureT-loop
 μ-loop image list seed nodes messages labels free falling targets heads₀ classes₀ delivered₀ holders₀ moves₀ next₀ span heads classes delivered holders moves next = sumOf image list - moves
 
--- where the start is known to be fine, from the loop back to there, and from a turn back to the loop's test
+-- where the start is known to be fine, from the loop back to there, and from a pick back to the loop's test
 fine-at : (c : tie.After-enum-told Inv-loop μ-loop) → let a = c .before .before .before .before .before .before .args in startFault (now (a .image)) (now (a .list)) ≡ Fine
 fine-at c =
     let s = c .before .before .before in
@@ -63,14 +63,14 @@ unfolding allDelivered isDelivered
 loop-less c =
     let t = test-of (c .before) in
     let l = t .before .before .before in
-    running-less _ _ (fine-at (told-of l)) (l .loop .inv .0) (c .turn-in .ensures ∙ running-turn _ _ (fine-at (told-of l)) (l .loop .inv .0) _ (l .loop .inv .1)) (sym (t .before .all-delivered-in .ensures) ∙ undelivered t)
+    running-less _ _ (fine-at (told-of l)) (l .loop .inv .0) (c .pick-in .ensures ∙ running-pick _ _ (fine-at (told-of l)) (l .loop .inv .0) _ (l .loop .inv .1)) (sym (t .before .all-delivered-in .ensures) ∙ undelivered t)
 
 loop-again : tie.Need-loop-again Inv-loop μ-loop
 unfolding allDelivered isDelivered
 loop-again c =
     let t = test-of (c .before) in
     let l = t .before .before .before in
-    (running-more _ _ (fine-at (told-of l)) (l .loop .inv .0) (c .turn-in .ensures ∙ running-turn _ _ (fine-at (told-of l)) (l .loop .inv .0) _ (l .loop .inv .1)) (sym (t .before .all-delivered-in .ensures) ∙ undelivered t), l .loop .inv .1)
+    (running-more _ _ (fine-at (told-of l)) (l .loop .inv .0) (c .pick-in .ensures ∙ running-pick _ _ (fine-at (told-of l)) (l .loop .inv .0) _ (l .loop .inv .1)) (sym (t .before .all-delivered-in .ensures) ∙ undelivered t), l .loop .inv .1)
 
 returns-2 : tie.Need-returns-2 Inv-loop μ-loop
 unfolding allDelivered isDelivered

@@ -7,7 +7,7 @@ use borrow.Author.Needs.{needs}
 use Rattle.format.specs.Contents.{pairsIn}
 use Rattle.results.specs.Written.{Writes}
 use Rattle.results.proofs.Placed.{fault-writes, fine-writes}
-use Rattle.image.specs.Calls.{imageFault}
+use Rattle.image.specs.Faults.{imageFault}
 use Rattle.reading.specs.Reads.{outcomeOf}
 use Rattle.reading.specs.declared.Outcome.the-variants.{Read}
 use Rattle.reading.proofs.Reading.{outcome-refused, outcome-read, reads}

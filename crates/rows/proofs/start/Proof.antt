@@ -1,11 +1,11 @@
 -- `rows::start` meets its contract.
-use Rattle.rows.specs.Steps.{startOf}
+use Rattle.rows.specs.Steps.{searchFrom}
 use borrow.Author.Needs.{needs}
 use Rattle.rows.proofs.start.Statement.{statement}
 use Rattle.rows.proofs.start.Tie as tie
 
 returns : tie.Need-returns
-unfolding startOf
+unfolding searchFrom
 returns c = rw (c .one .ensures)
 
 pub start-spec : {M : Type 1} → statement M

@@ -7,7 +7,7 @@ use Rattle.results.proofs.Placed.{fault-writes, fine-writes}
 use Rattle.format.specs.Contents.{fullKinds}
 use Rattle.image.specs.Image.{imageOf}
 use Rattle.image.proofs.Faults.{cabling-good, links-ordered, links-broken}
-use Rattle.image.proofs.Pieces.{cabling-of, full-asks}
+use Rattle.fabric.proofs.Parts.{cabling-of, full-asks}
 use Rattle.writing.proofs.build.Statement.{statement}
 use Rattle.writing.proofs.build.Tie as tie
 

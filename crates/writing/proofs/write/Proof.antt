@@ -9,7 +9,7 @@ use Rattle.cabling.proofs.Meaning.{fault-fine}
 use Rattle.fabric.proofs.Making.{made-verdict, made-fabric}
 use Rattle.results.proofs.Placed.{fault-writes, fine-writes}
 use Rattle.image.specs.Image.{imageOf, kindsOf}
-use Rattle.image.proofs.Pieces.{cabling-of, full-asks}
+use Rattle.fabric.proofs.Parts.{cabling-of, full-asks}
 use Rattle.writing.proofs.write.Statement.{statement}
 use Rattle.writing.proofs.write.Tie as tie
 

@@ -7,7 +7,7 @@ use denote.Ref.{now}
 use borrow.Author.Needs.{needs}
 use Rattle.laid.specs.Laid.{page, behind}
 use Rattle.laid.proofs.Pieces.{lays-length}
-use Rattle.image.proofs.Pieces.{Entries, entries-begin, entries-next, entries-end}
+use Rattle.writing.proofs.Pieces.{Entries, entries-begin, entries-next, entries-end}
 use Rattle.writing.proofs.laying.contents_of.Statement.{statement}
 use Rattle.writing.proofs.laying.contents_of.Tie as tie
 

@@ -2,7 +2,7 @@
 use native.Mathlib.Omega.{arith}
 use denote.Ref.{now}
 use borrow.Author.Needs.{needs}
-use Rattle.image.proofs.Pieces.{head-length, front-length, front-lays}
+use Rattle.writing.proofs.Pieces.{head-length, front-length, front-lays}
 use Rattle.writing.proofs.laying.front.Statement.{statement}
 use Rattle.writing.proofs.laying.front.Tie as tie
 

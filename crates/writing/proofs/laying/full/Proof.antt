@@ -6,7 +6,7 @@ use borrow.Author.Needs.{needs}
 use Rattle.rows.proofs.Grid.{square-le}
 use Rattle.laid.specs.Laid.{behind}
 use Rattle.results.proofs.Placed.{lays-writes}
-use Rattle.image.proofs.Pieces.{full-short, full-front-fits, full-lays}
+use Rattle.writing.proofs.Pieces.{full-short, full-front-fits, full-lays}
 use Rattle.writing.proofs.laying.full.Statement.{statement}
 use Rattle.writing.proofs.laying.full.Tie as tie
 

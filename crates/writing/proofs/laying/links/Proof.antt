@@ -6,7 +6,8 @@ use borrow.Author.Needs.{needs}
 use Rattle.cabling.specs.Cabling.{cabled}
 use Rattle.laid.proofs.Pieces.{lays-as}
 use Rattle.results.proofs.Placed.{no-room, lays-writes}
-use Rattle.image.proofs.Pieces.{linksSizes, front-length, links-image, links-size}
+use Rattle.image.proofs.Sizes.{links-size}
+use Rattle.writing.proofs.Pieces.{linksSizes, front-length, links-image}
 use Rattle.writing.proofs.laying.links.Statement.{statement}
 use Rattle.writing.proofs.laying.links.Tie as tie
 

@@ -1,6 +1,6 @@
--- The pieces that the code lays one behind the other are the image: its contents entry by entry, then its bodies. And how long the two images are.
-use mathlib.Core.Path.{_≡_, sym, _∙_, ap, ap₂, subst}
-use mathlib.Core.Bool.{Bool, true, false}
+-- The pieces that the code lays one behind the other are the image: its contents entry by entry, then its bodies.
+use mathlib.Core.Path.{_≡_, sym, _∙_, ap, ap₂}
+use mathlib.Core.Bool.{true, false}
 use mathlib.Core.List.{List, [], _∷_, _++_, append-assoc, append-nil}
 use Prim.Native.Nat.{ℕ, suc, _+_, _*_, _≤_, _<_}
 use native.Mathlib.Numerals.{add-one}
@@ -9,10 +9,10 @@ use lib.ListN.{length, getD, take, length-append, length-map}
 use lib.Seq.{take-all, length-take-le}
 use Rattle.finite.specs.Sum.{sumTo}
 use Rattle.finite.proofs.Sum.{sum-none, sum-more}
-use Rattle.rows.proofs.Meaning.{rows-length}
-use Rattle.cabling.specs.Cabling.{Cabling, cabled, Good, links}
+use Rattle.image.proofs.Sizes.{rows-size, full-size}
+use Rattle.cabling.specs.Cabling.{Cabling, Good}
 use Rattle.fabric.specs.declared.Fabric.{Fabric}
-use Rattle.fabric.specs.Fabric.{labelsFor, labelFor, rowsFor, fabricOf}
+use Rattle.fabric.specs.Fabric.{labelsFor, rowsFor, fabricOf}
 use Rattle.fabric.proofs.Labels.{labels-length}
 use Rattle.fabric.proofs.Parts.{labels-part, free-part, falling-part}
 use Rattle.format.specs.Limits.{maxImage}
@@ -27,8 +27,8 @@ use Rattle.refusal.specs.declared.Verdict.the-variants.{Fine}
 use Rattle.results.specs.declared.Written.the-variants.{NotWritten}
 use Rattle.results.specs.Written.{Writes}
 use Rattle.results.proofs.Placed.{no-room}
 use Rattle.image.specs.Image.{bodiesOf, imageOf}
-use Rattle.image.specs.Laying.{headOf, frontOf}
+use Rattle.writing.specs.Laying.{headOf, frontOf}
 
 -- ---- the contents, entry by entry
 
@@ -114,15 +114,12 @@ module _ (c : Cabling) where
   abbrev n : ℕ
   n = c .nodes
 
-  rows-size : (class : Bool) → length (rowsFor c class) ≡ n * n
-  rows-size = rows-length n n (links c) (labelFor c)
-
   first-size : 2 + length (c .pairs) ≡ suc (suc (length (c .pairs)))
   first-size = omega arith
 
   full-sizes : fullSizes c ≡ lengthsOf (bodiesOf c)
   unfolding bodiesOf
-  full-sizes = rw (first-size, labels-length c, rows-size true, rows-size false)
+  full-sizes = rw (first-size, labels-length c, rows-size c true, rows-size c false)
 
   pub links-image : frontOf (linksSizes c) n (c .pairs) ≡ imageOf linksKinds c
   unfolding imageOf bodiesOf joinedUp
@@ -134,16 +131,9 @@ module _ (c : Cabling) where
       rw full-sizes
       (regroup (headOf (lengthsOf (bodiesOf c))) (n ∷ 0 ∷ []) (c .pairs) (labelsFor c) (rowsFor c true) (rowsFor c false) ∙ head-image (bodiesOf c))
 
-  -- RULES 6.2: "A full image has 28 + 2M + N + 2N² bytes"
-  pub links-size : length (imageOf linksKinds c) ≡ 10 + length (c .pairs)
-  links-size = ap length (sym links-image) ∙ simp (length-append, head-length) (omega arith)
-
-  pub full-size : length (imageOf fullKinds c) ≡ 28 + length (c .pairs) + n + 2 * (n * n)
-  full-size = ap length (sym full-image) ∙ simp (length-append, head-length, labels-length c, rows-size) (omega arith)
-
   -- so much room is asked for first
   pub full-short : {before : List ℕ} → length before < 28 + length (c .pairs) + n + 2 * (n * n) → Writes Fine (imageOf fullKinds c) before (NotWritten Short) before
-  full-short h = no-room _ _ (let e = full-size in omega arith)
+  full-short h = no-room _ _ (let e = full-size c in omega arith)
 
 pub full-front-fits : {c : Cabling} {room : ℕ} → Good c → 28 + length (c .pairs) + c .nodes + 2 * (c .nodes * c .nodes) ≤ room
     → length (frontOf (fullSizes c) (c .nodes) (c .pairs)) ≤ room
@@ -152,14 +142,6 @@ full-front-fits {c} g h = let e = front-length (fullSizes c) (c .nodes) (c .pair
 -- ---- the fabric of a cabling
 
 module _ (c : Cabling) {f : Fabric} (e : f ≡ fabricOf c) where
-  -- the fabric's N and the pairs are the cabling
-  pub cabling-of : {pairs : List ℕ} → pairs ≡ c .pairs → cabled (f .nodes) pairs ≡ c
-  unfolding fabricOf
-  cabling-of q = ap₂ (λ (x : Fabric) (y : List ℕ). cabled (x .nodes) y) e q
-
-  pub full-asks : {pairs : List ℕ} → Good c → pairs ≡ c .pairs → Good (cabled (f .nodes) pairs) × (f ≡ fabricOf (cabled (f .nodes) pairs))
-  full-asks g q = let k = sym (cabling-of q) in (subst Good k g, e ∙ ap fabricOf k)
-
   -- its arrays, laid behind the front
   pub full-lays : {b : List ℕ} {p q r s : Page} → Lays b p (frontOf (fullSizes c) (c .nodes) (c .pairs)) → q ≡ behind p (take (f .nodes) (f .labels))
       → r ≡ behind q (take (f .nodes * f .nodes) (f .free)) → s ≡ behind r (take (f .nodes * f .nodes) (f .falling))

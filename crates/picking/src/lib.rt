@@ -1,18 +1,18 @@
-// One turn of a drain: which message moves next, and its move.
+// One pick of a drain: which message moves next, and its move.
 ghost use mathlib.Core.Path.{_≡_};
 ghost use Prim.Native.Nat.{_≤_, min};
 ghost use Rattle.messages.specs.Sizes.{maxMessages};
 ghost use Rattle.messages.specs.Ready.{readyAt};
 ghost use Rattle.machine.specs.InPlace.{packed};
-ghost use Rattle.turning.specs.Order.{chosenBy, turnOf};
-ghost use Rattle.turning.specs.InPlace.{turned, turnIn};
+ghost use Rattle.picking.specs.Order.{chosenBy, pickOf};
+ghost use Rattle.picking.specs.InPlace.{picked, pickIn};
 use messages::MAX_MESSAGES;
 use messages::MAX_PAIRS;
 use messages::Record;
 use nodes::MAX_NODES;
 
 // One move of a drain: the seed, the message where it looked first, the one that moved, and the record after it.
-pub struct Turned {
+pub struct Picked {
     pub seed: u32,
     pub look: usize,
     pub message: usize,
@@ -20,7 +20,7 @@ pub struct Turned {
 }
 
 // The same in arrays that stay in their place: the count of moves stands for the record.
-pub struct Picked {
+pub struct PickedIn {
     pub seed: u32,
     pub look: usize,
     pub message: usize,
@@ -63,7 +63,7 @@ fn choice(
 }
 
 // The next seed, where it says to look, and the move, in place, of the message that is found there. One that arrives gives back only channels below `span`.
-pub fn turn_in<'a>(
+pub fn pick_in<'a>(
     seed: u32,
     nodes: usize,
     messages: usize,
@@ -77,8 +77,8 @@ pub fn turn_in<'a>(
     classes: &mut [u8; MAX_MESSAGES],
     delivered: &mut [u8; MAX_MESSAGES],
     holders: &mut [u16; MAX_PAIRS],
-) -> Picked
-    ensures { λ r. ⌜ turned (r .seed) (r .look) (r .message) (packed nodes messages (r .moves) (now (labels .entry)) (now (free .entry)) (now (falling .entry)) (now (targets .entry)) (now (heads .exit)) (now (classes .exit)) (now (delivered .exit)) (now (holders .exit))) ≡ turnIn span seed (packed nodes messages moves (now (labels .entry)) (now (free .entry)) (now (falling .entry)) (now (targets .entry)) (now (heads .entry)) (now (classes .entry)) (now (delivered .entry)) (now (holders .entry))) ⌝ }
+) -> PickedIn
+    ensures { λ r. ⌜ picked (r .seed) (r .look) (r .message) (packed nodes messages (r .moves) (now (labels .entry)) (now (free .entry)) (now (falling .entry)) (now (targets .entry)) (now (heads .exit)) (now (classes .exit)) (now (delivered .exit)) (now (holders .exit))) ≡ pickIn span seed (packed nodes messages moves (now (labels .entry)) (now (free .entry)) (now (falling .entry)) (now (targets .entry)) (now (heads .entry)) (now (classes .entry)) (now (delivered .entry)) (now (holders .entry))) ⌝ }
 {
     let next = seeds::next_seed(seed);
     let from = seeds::look(next, machine::few(messages));
@@ -109,7 +109,7 @@ pub fn turn_in<'a>(
         holders,
         chosen,
     );
-    Picked {
+    PickedIn {
         seed: next,
         look: from,
         message: chosen,
@@ -118,14 +118,14 @@ pub fn turn_in<'a>(
 }
 
 // The next seed, where it says to look, and the move of the message that is found there.
-pub fn turn(seed: u32, record: Record) -> Turned
-    ensures { λ r. ⌜ r ≡ turnOf seed «record» ⌝ }
+pub fn pick(seed: u32, record: Record) -> Picked
+    ensures { λ r. ⌜ r ≡ pickOf seed «record» ⌝ }
 {
     let mut heads = record.heads;
     let mut classes = record.classes;
     let mut delivered = record.delivered;
     let mut holders = record.holders;
-    let picked = turn_in(
+    let picked = pick_in(
         seed,
         record.nodes,
         record.messages,
@@ -146,7 +146,7 @@ pub fn turn(seed: u32, record: Record) -> Turned
     after.classes = classes;
     after.delivered = delivered;
     after.holders = holders;
-    Turned {
+    Picked {
         seed: picked.seed,
         look: picked.look,
         message: picked.message,

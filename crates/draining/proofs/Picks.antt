@@ -1,4 +1,4 @@
--- While a message is undelivered each turn moves one, so a drain ends when the sum of demand 3 (RULES 2.3) is reached: every message is delivered then.
+-- While a message is undelivered each pick moves one, so a drain ends when the sum of demand 3 (RULES 2.3) is reached: every message is delivered then.
 use mathlib.Core.Path.{_≡_, refl, sym, _∙_, ap, subst}
 use mathlib.Core.Bool.{Bool, true, false}
 use mathlib.Core.List.{List}
@@ -13,18 +13,18 @@ use Rattle.messages.specs.Runs.{Tabled, Listed, allMoves, Reached, move, succes
 use Rattle.messages.specs.Ready.{messagesOf, ready, allDelivered}
 use Rattle.messages.proofs.Drain.{never-more, all-delivered, one-less}
 use Rattle.messages.proofs.Ready.{ready-moves, every-delivered, messages-listed, one-ready}
-use Rattle.turning.specs.Order.{turnOf}
+use Rattle.picking.specs.Order.{pickOf}
 use Rattle.draining.specs.Drained.{after}
-use Rattle.turning.proofs.Chosen.{chosen-ready}
+use Rattle.picking.proofs.Chosen.{chosen-ready}
 
 pub after-done : (k seed : ℕ) (r : Record) → allDelivered r ≡ true → after k seed r ≡ r
 unfolding after
 after-done zero seed r d = refl
 after-done (suc k) seed r d = rw (d, after)
 
-pub after-turn : (k seed : ℕ) (r : Record) → allDelivered r ≡ false → after (suc k) seed r ≡ after k (turnOf seed r .seed) (turnOf seed r .«record»)
+pub after-pick : (k seed : ℕ) (r : Record) → allDelivered r ≡ false → after (suc k) seed r ≡ after k (pickOf seed r .seed) (pickOf seed r .«record»)
 unfolding after
-after-turn k seed r d = rw (d, after)
+after-pick k seed r d = rw (d, after)
 
 module _ {n : ℕ} {edge : ℕ → ℕ → Bool} {labels free falling list : List ℕ} (tabled : Tabled n edge labels free falling) (listed : Listed n list) where
   abbrev sum : ℕ
@@ -34,23 +34,23 @@ module _ {n : ℕ} {edge : ℕ → ℕ → Bool} {labels free falling list : Lis
   Run r = Reached n labels free falling list r
 
   module _ {r : Record} (run : Run r) (seed : ℕ) where
-    pub turn-run : Run (turnOf seed r .«record»)
-    unfolding turnOf
-    turn-run = move _ run
+    pub pick-run : Run (pickOf seed r .«record»)
+    unfolding pickOf
+    pick-run = move _ run
 
     module _ (d : allDelivered r ≡ false) where
-      -- the message that a turn chooses moves or is delivered
-      pub turn-moves : successful (stepOf r (turnOf seed r .message) .answer) ≡ true
-      unfolding turnOf
-      turn-moves =
+      -- the message that a pick chooses moves or is delivered
+      pub pick-moves : successful (stepOf r (pickOf seed r .message) .answer) ≡ true
+      unfolding pickOf
+      pick-moves =
           let s = one-ready tabled listed run d in
           let l = s .low in
           let c = chosen-ready (messagesOf r) (ready r) (lookAt (nextSeed seed) (messagesOf r)) (look-low (nextSeed seed) (messagesOf r) (omega arith)) s in
           sym (ready-moves r _ (c .0)) ∙ c .1
 
-      pub turn-less : suc (sum - turnOf seed r .«record» .moves) ≡ sum - r .moves
-      unfolding turnOf
-      turn-less = one-less tabled listed run _ turn-moves
+      pub pick-less : suc (sum - pickOf seed r .«record» .moves) ≡ sum - r .moves
+      unfolding pickOf
+      pick-less = one-less tabled listed run _ pick-moves
 
   -- where no move is left every message is delivered
   none-left : {r : Record} → Run r → sum - r .moves ≡ 0 → allDelivered r ≡ true
@@ -65,17 +65,17 @@ module _ {n : ℕ} {edge : ℕ → ℕ → Bool} {labels free falling list : Lis
   after-run zero seed run = run
   after-run (suc k) seed {r} run =
       bcase (allDelivered r) (λ d. subst Run (sym (after-done (suc k) seed r d)) run)
-      (λ d. subst Run (sym (after-turn k seed r d)) (after-run k _ (turn-run run seed)))
+      (λ d. subst Run (sym (after-pick k seed r d)) (after-run k _ (pick-run run seed)))
 
-  -- as many turns as moves are left, or more, end the drain
+  -- as many picks as moves are left, or more, end the drain
   pub after-ends : (k seed : ℕ) {r : Record} → Run r → sum - r .moves ≤ k → allDelivered (after k seed r) ≡ true
   unfolding after
   after-ends zero seed run l = none-left run (omega arith)
   after-ends (suc k) seed {r} run l =
       bcase (allDelivered r) (λ d. ap allDelivered (after-done (suc k) seed r d) ∙ d)
       (λ d.
-      let e = turn-less run seed d in
-      ap allDelivered (after-turn k seed r d) ∙ after-ends k _ (turn-run run seed) (omega arith))
+      let e = pick-less run seed d in
+      ap allDelivered (after-pick k seed r d) ∙ after-ends k _ (pick-run run seed) (omega arith))
 
   -- and it is the same end
   pub after-same : (j k seed : ℕ) {r : Record} → Run r → sum - r .moves ≤ j → sum - r .moves ≤ k → after j seed r ≡ after k seed r
@@ -85,18 +85,18 @@ module _ {n : ℕ} {edge : ℕ → ℕ → Bool} {labels free falling list : Lis
   after-same (suc j) (suc k) seed {r} run l m =
       bcase (allDelivered r) (λ d. after-done (suc j) seed r d ∙ sym (after-done (suc k) seed r d))
       (λ d.
-      let e = turn-less run seed d in
-      after-turn j seed r d ∙ after-same j k _ (turn-run run seed) (omega arith) (omega arith) ∙ sym (after-turn k seed r d))
+      let e = pick-less run seed d in
+      after-pick j seed r d ∙ after-same j k _ (pick-run run seed) (omega arith) (omega arith) ∙ sym (after-pick k seed r d))
 
-  -- each turn counts at most one
+  -- each pick counts at most one
   pub after-count : (k seed : ℕ) {r : Record} → Run r → after k seed r .moves ≤ r .moves + k
   unfolding after
   after-count zero seed run = omega arith
   after-count (suc k) seed {r} run =
       bcase (allDelivered r) (λ d. let e = ap (λ (x : Record). x .moves) (after-done (suc k) seed r d) in omega arith)
       (λ d.
-      let e = ap (λ (x : Record). x .moves) (after-turn k seed r d) in
-      let i = after-count k (turnOf seed r .seed) (turn-run run seed) in
-      let l = turn-less run seed d in
-      let b = never-more tabled listed (turn-run run seed) in
+      let e = ap (λ (x : Record). x .moves) (after-pick k seed r d) in
+      let i = after-count k (pickOf seed r .seed) (pick-run run seed) in
+      let l = pick-less run seed d in
+      let b = never-more tabled listed (pick-run run seed) in
       omega arith)

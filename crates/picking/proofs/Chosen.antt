@@ -8,7 +8,7 @@ use Rattle.finite.specs.Truth.{below}
 use Rattle.finite.specs.Search.{Some, least}
 use Rattle.finite.proofs.Truth.{bcase, below-lt, below-le, lt-below, le-below}
 use Rattle.finite.proofs.Search.{least-unique, least-fact, least-before, least-found}
-use Rattle.turning.specs.Order.{around, chosenBy}
+use Rattle.picking.specs.Order.{around, chosenBy}
 
 -- every message is met on the way round
 pub met : (n look m : ℕ) → look < n → m < n → (k : ℕ) × (k < n) × (around n look k ≡ m)

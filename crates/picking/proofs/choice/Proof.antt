@@ -1,4 +1,4 @@
--- `turning::choice` meets its contract. The invariant: no message passed is ready.
+-- `picking::choice` meets its contract. The invariant: no message passed is ready.
 use mathlib.Core.Path.{_≡_, sym, _∙_}
 use mathlib.Core.Bool.{false}
 use Prim.Native.Nat.{ℕ, _-_, _≤_, _<_, min}
@@ -8,10 +8,10 @@ use borrow.Author.Needs.{needs}
 use denote.Ref.{now}
 use Rattle.messages.specs.Sizes.{maxMessages}
 use Rattle.messages.specs.Ready.{readyAt}
-use Rattle.turning.specs.Order.{around}
-use Rattle.turning.proofs.Chosen.{counted-here, counted-none}
-use Rattle.turning.proofs.choice.Statement.{statement}
-use Rattle.turning.proofs.choice.Tie as tie
+use Rattle.picking.specs.Order.{around}
+use Rattle.picking.proofs.Chosen.{counted-here, counted-none}
+use Rattle.picking.proofs.choice.Statement.{statement}
+use Rattle.picking.proofs.choice.Tie as tie
 
 abbrev Inv-loop : tie.InvT-loop
 Inv-loop nodes messages free falling targets heads classes delivered holders look n k₀ k =

@@ -1,11 +1,11 @@
--- `turning::turn_in` meets its contract.
+-- `picking::pick_in` meets its contract.
 use Prim.Native.Nat.{_≤_}
 use native.Mathlib.Omega.{arith}
 use Rattle.seeds.proofs.Places.{look-le}
-use Rattle.turning.proofs.InPlace.{turned-in}
+use Rattle.picking.proofs.InPlace.{picked-in}
 use borrow.Author.Needs.{needs}
-use Rattle.turning.proofs.turn_in.Statement.{statement}
-use Rattle.turning.proofs.turn_in.Tie as tie
+use Rattle.picking.proofs.pick_in.Statement.{statement}
+use Rattle.picking.proofs.pick_in.Tie as tie
 
 choice-requires : tie.Need-choice-requires
 choice-requires c κs =
@@ -18,7 +18,7 @@ returns c =
     let l = m .before .before .before .before .before .before .before .before .before .before .before .before in
     let n = l .before in
     let s = n .before in
-    turned-in _ _ _ (s .next-seed .ensures) (n .few .ensures) (l .look .ensures) (m .choice .ensures) (c .step-in .ensures)
+    picked-in _ _ _ (s .next-seed .ensures) (n .few .ensures) (l .look .ensures) (m .choice .ensures) (c .step-in .ensures)
 
-pub turn-in-spec : {M : Type 1} → statement M
-turn-in-spec = tie.close (tie.spec (λ c κs. search needs) (λ c κs. search needs) (λ c κs. search needs) choice-requires (λ c κs. search needs) returns)
+pub pick-in-spec : {M : Type 1} → statement M
+pick-in-spec = tie.close (tie.spec (λ c κs. search needs) (λ c κs. search needs) (λ c κs. search needs) choice-requires (λ c κs. search needs) returns)

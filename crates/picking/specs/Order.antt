@@ -7,7 +7,7 @@ use Rattle.seeds.specs.Seed.{nextSeed, lookAt}
 use Rattle.messages.specs.declared.Record.{Record}
 use Rattle.messages.specs.Step.{stepOf}
 use Rattle.messages.specs.Ready.{messagesOf, ready}
-use Rattle.turning.specs.declared.Turned.{Turned}
+use Rattle.picking.specs.declared.Picked.{Picked}
 
 -- of n messages the one that stands k behind `look`, RULES 10.4: "going round"
 abbrev pub around : ℕ → ℕ → ℕ → ℕ
@@ -23,8 +23,8 @@ abbrev pub chosen : Record → ℕ → ℕ
 chosen r = chosenBy (messagesOf r) (ready r)
 
 -- RULES 10.4: "Before each move the seed becomes": the seed, where it says to look, the message that moves, and the record after its move
-unfoldable pub turnOf : ℕ → Record → Turned
-turnOf seed r =
+unfoldable pub pickOf : ℕ → Record → Picked
+pickOf seed r =
     let next : ℕ = nextSeed seed in
     let look : ℕ = lookAt next (messagesOf r) in
     let message : ℕ = chosen r look in
