@@ -1,11 +1,13 @@
 //! The program worked: what is found of each network worked by hand, and of
-//! the images listed beside them, as text.
+//! the images and sheets listed beside them, as text.
 
 use crate::calls::accept;
 use crate::cases::cabling::{path, ring, Cabling};
 use crate::cases::pack::drain_input;
-use crate::cases::worked::{listed, networks, ring_messages};
-use crate::programs::{drain, drained, listed as numbers, show};
+use crate::cases::worked::{listed, listed_sheets, networks, ring_messages};
+use crate::programs::{drain, drained, listed as numbers, sheet, show};
+use crate::refusal::Refusal;
+use crate::sheets::cable;
 
 /// The largest network whose falling rows are worked by hand.
 const ROWS_BY_HAND: usize = 4;
@@ -13,10 +15,14 @@ const ROWS_BY_HAND: usize = 4;
 pub fn worked(_: &[u8]) -> Vec<u8> {
     let mut text: String = networks().iter().map(found).collect();
     for (name, image) in listed() {
-        text += &format!("{name}: {}\n", verdict(&image));
+        text += &format!("{name}: {}\n", verdict(accept(&image)));
     }
     let none = drain_input(&path(2).links_image(), 0, &[]);
     text += &format!("no messages: {}", shown(drain(&none)));
+    for (name, sheet) in listed_sheets() {
+        let mut room = [0; 1_034];
+        text += &format!("{name}: {}\n", verdict(cable(&sheet, &mut room)));
+    }
     text.into_bytes()
 }
 
@@ -40,11 +46,14 @@ fn found(cabling: &Cabling) -> String {
         let (fabric, _) = accept(&links).expect("an accepted network");
         text += &format!("falling{}\n", numbers(&fabric.tables.falling));
     }
+    if [path(2), ring(4)].contains(cabling) {
+        text += &format!("sheet{}\n", numbers(&sheet(&links)));
+    }
     text
 }
 
-fn verdict(image: &[u8]) -> String {
-    match accept(image) {
+fn verdict<T>(answer: Result<T, Refusal>) -> String {
+    match answer {
         Ok(_) => "accepted".into(),
         Err(refused) => refused.to_string(),
     }

@@ -116,7 +116,7 @@ pub fn route(
 }
 
 /// Writes at the front of a lent buffer, or refuses and leaves it alone.
-fn put(bytes: &[u8], out: &mut [u8]) -> Result<usize, Refusal> {
+pub(crate) fn put(bytes: &[u8], out: &mut [u8]) -> Result<usize, Refusal> {
     let front = out.get_mut(..bytes.len()).ok_or(refusal(9, 0))?;
     front.copy_from_slice(bytes);
     Ok(bytes.len())

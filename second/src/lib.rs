@@ -1,5 +1,5 @@
-//! The second program: images, labels, rows, routes, the drain machine and
-//! the programs of docs/RULES.md, and the cases for the comparison.
+//! The second program: images, sheets, labels, rows, routes, the drain machine
+//! and the programs of docs/RULES.md, and the cases for the comparison.
 
 pub mod by_hand;
 pub mod calls;
@@ -12,3 +12,4 @@ pub mod programs;
 pub mod protocol;
 pub mod refusal;
 pub mod rows;
+pub mod sheets;

@@ -1,21 +1,25 @@
-//! The programs build, show and drain, each from its input's bytes to its
-//! output's bytes, and the reading and writing of the standard streams.
+//! The programs cable, sheet, build, show and drain, each from its input's
+//! bytes to its output's bytes, and the reading and writing of the standard
+//! streams.
 
 use crate::calls::{accept, build as build_call, Fabric};
 use crate::drain::{Answer, Record};
 use crate::label::prohibited;
 use crate::refusal::{refusal, Refusal};
+use crate::sheets::{cable as cable_call, sheet as sheet_call};
 use std::io::{self, Read, Write};
 
-/// The most that build, show and drain read.
+/// The most that each of them reads.
 pub const MOST_INPUT: usize = 65_536;
 
-/// Room for any full image.
+/// Room for any image and any sheet.
 const ROOM: usize = 65_535;
 
 /// The output of the named program, if there is such a program.
 pub fn run(name: &str, input: &[u8]) -> Option<Vec<u8>> {
     match name {
+        "cable" => Some(cable(input)),
+        "sheet" => Some(sheet(input)),
         "build" => Some(build(input)),
         "show" => Some(show(input)),
         "drain" => Some(drain(input)),
@@ -34,9 +38,24 @@ pub fn serve(limit: usize, program: fn(&[u8]) -> Vec<u8>) -> io::Result<()> {
     output.flush()
 }
 
+pub fn cable(input: &[u8]) -> Vec<u8> {
+    written(cable_call, input)
+}
+
+pub fn sheet(input: &[u8]) -> Vec<u8> {
+    written(sheet_call, input)
+}
+
 pub fn build(input: &[u8]) -> Vec<u8> {
+    written(build_call, input)
+}
+
+/// A call that takes bytes, writes into a lent buffer and answers how many.
+pub type Writing = fn(&[u8], &mut [u8]) -> Result<usize, Refusal>;
+
+fn written(call: Writing, input: &[u8]) -> Vec<u8> {
     let mut out = vec![0; ROOM];
-    match build_call(front(input), &mut out) {
+    match call(front(input), &mut out) {
         Ok(length) => out[..length].to_vec(),
         Err(refused) => line(refused),
     }

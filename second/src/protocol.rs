@@ -3,9 +3,10 @@
 use crate::calls::{build, read, route, write};
 use crate::drain::{Answer, Record};
 use crate::image::{entry, Entry, Walker};
-use crate::programs::{drained, listed};
+use crate::programs::{drained, listed, Writing};
 use crate::refusal::{refusal, Refusal};
 use crate::rows::{hop, row};
+use crate::sheets::{cable, sheet};
 
 /// The most that is read.
 pub const MOST_CALL: usize = 131_072;
@@ -28,9 +29,11 @@ fn call(input: &[u8]) -> Option<String> {
         4 => route_call(arguments),
         5 => read_call(arguments),
         6 => write_call(arguments),
-        7 => build_call(arguments),
+        7 => writing_call(arguments, "built", build),
         8 => steps_call(arguments),
         9 => trace_call(arguments),
+        10 => writing_call(arguments, "cabled", cable),
+        11 => writing_call(arguments, "sheet", sheet),
         _ => None,
     }
 }
@@ -162,12 +165,13 @@ fn write_call(mut arguments: Arguments) -> Option<String> {
     Some(with_buffer(answer, &buffer))
 }
 
-fn build_call(mut arguments: Arguments) -> Option<String> {
-    let image = arguments.bytes()?;
+/// Build, cable or sheet: bytes and a buffer; the word and how many are written.
+fn writing_call(mut arguments: Arguments, word: &str, call: Writing) -> Option<String> {
+    let bytes = arguments.bytes()?;
     let mut buffer = arguments.buffer()?;
     arguments.end()?;
-    let answer = build(image, &mut buffer);
-    let answer = answer.map(|length| format!("built {length}"));
+    let answer = call(bytes, &mut buffer);
+    let answer = answer.map(|length| format!("{word} {length}"));
     Some(with_buffer(answer, &buffer))
 }
 

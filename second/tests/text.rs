@@ -1,6 +1,6 @@
 //! The text of the program `calls`, and that cases come out the same again.
 
-use second::cases::cabling::ring;
+use second::cases::cabling::{path, ring};
 use second::cases::pack::*;
 use second::cases::{drawn, fixed, Set, DRAWN};
 use second::image::lay_out;
@@ -54,6 +54,19 @@ fn buffers() {
     );
     let built = text(&build_call(&ring(4).links_image(), 72));
     assert!(built.starts_with("built 72\nbuffer 1 4 1 0 26 0 10 0 "));
+    assert_eq!(
+        text(&cable_call(b"2\n0 1\n", 13)),
+        "cabled 12\nbuffer 1 1 1 0 8 0 4 0 2 0 0 1 97\n"
+    );
+    assert_eq!(
+        text(&cable_call(b"2\n0 1", 2)),
+        "refused 12 1\nbuffer 13 20\n"
+    );
+    assert_eq!(
+        text(&sheet_call(&path(2).links_image(), 7)),
+        "sheet 6\nbuffer 50 10 48 32 49 10 55\n"
+    );
+    assert_eq!(text(&sheet_call(&image, 1)), "refused 1 0\nbuffer 13\n");
 }
 
 const BLANK: &str = "record 0 0\ndelivered\nheld\n";
@@ -123,7 +136,7 @@ fn bad_calls() {
     }
     let longer = [good.as_slice(), &[0]].concat();
     assert_eq!(text(&longer), "bad call\n");
-    assert_eq!(text(&[10]), "bad call\n");
+    assert_eq!(text(&[12]), "bad call\n");
     assert_eq!(text(&[255, 0, 0]), "bad call\n");
 }
 

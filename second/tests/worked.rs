@@ -215,8 +215,19 @@ fn networks_marked_run() {
         "degree 17: refused 6 0",
         "links 0-1 and 2-3: refused 7 2",
         "no messages: drained 0 0",
+        "links 0-1 and 2-3 on a sheet: refused 7 2",
+        "a pair twice on a sheet: refused 5 1",
+        "a sheet's last line not closed: refused 12 1",
+        "two spaces on a sheet: refused 12 1",
+        "an empty line alone: refused 12 0",
+        "a sheet of one node: refused 2 0",
+        "the pair (1, 0) on a sheet: refused 4 0",
     ];
     let lines: Vec<&str> = text.lines().collect();
     assert!(lines.ends_with(&last));
     assert!(text.contains("drained 4 12\nlooks 2\n"));
+    let link = "falling 0 255 0 1\nsheet 50 10 48 32 49 10\nfabric 3 3 3 1\n";
+    assert!(text.contains(link));
+    let ring = "sheet 52 10 48 32 49 10 48 32 51 10 49 32 50 10 50 32 51 10\nfabric 4 3 3 0\n";
+    assert!(text.contains(ring));
 }

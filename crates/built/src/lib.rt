@@ -14,9 +14,6 @@ pub fn output(input: &[u8], out: &mut [u8]) -> Written
     if out.len() < LONGEST {
         return Written::NotWritten(Refusal::Short);
     }
-    let built = writing::build(input, out);
-    match built {
-        Written::NotWritten(r) => lines::refusal_line(r, out),
-        Written::Bytes(m) => Written::Bytes(m),
-    }
+    let written = writing::build(input, out);
+    lines::told(written, out)
 }

@@ -9,7 +9,7 @@ use Rattle.finite.specs.Truth.{_&_, _or_, non, same, below}
 use Rattle.finite.specs.Sum.{sumTo}
 use Rattle.finite.specs.Search.{any, all, least, leastValue, lowestAt, leastBy}
 use Rattle.finite.specs.Sets.{has, setOf, without}
-use Rattle.finite.specs.Lists.{upFrom, tabulate}
+use Rattle.finite.specs.Lists.{upFrom, tabulate, joinedUp}
 use Rattle.graph.specs.Network.{among, degree}
 use Rattle.graph.specs.Reach.{grow, spread, reach, covers, joined, connected, cut}
 use Rattle.network.specs.Table.{joins, linkedBy, linked}
@@ -19,16 +19,19 @@ use Rattle.rule.specs.Candidate.{room, candidate, choice}
 use Rattle.rule.specs.Labels.{remains, give, stage, labelled, labelsOf}
 use Rattle.turns.specs.Turns.{turnsThat, allTurns, prohibitedTurns}
 use Rattle.refusal.specs.declared.Verdict.the-variants.{Fine}
+use Rattle.refusal.proofs.Verdicts.{then-fine}
 use Rattle.cabling.specs.Cabling.{Cabling, links, Good}
 use Rattle.cabling.specs.Faults.{isCounted, isShaped, badEnds, notAbove, badPair, crowded, unreached, nodeFault, linkFault, faultOf, isAbove}
 use Rattle.cabling.proofs.Meaning.{fault-fine}
 use Rattle.rows.specs.Tables.{rowsOf}
 use Rattle.fabric.specs.Fabric.{labelsFor, rowsFor}
 use Rattle.format.specs.Contents.{linksKinds, fullKinds}
-use Rattle.format.specs.Bytes.{entriesOf, joinedUp, imageFrom}
+use Rattle.format.specs.Bytes.{entriesOf, imageFrom}
 use Rattle.image.specs.Image.{bodiesOf, imageOf, kindsOf}
-use Rattle.image.proofs.Faults.{then-fine}
 use Rattle.image.proofs.Images.{read-cabling, image-accepted}
+use Rattle.text.specs.Text.{places, decimalOf}
+use Rattle.lines.specs.Lines.{fieldsOf}
+use Rattle.sheets.specs.Sheet.{linkLines, sheetOf}
 use Rattle.messages.specs.declared.Record.{Record}
 use Rattle.messages.specs.Fresh.{begunOf}
 use Rattle.messages.specs.Runs.{messagesIn, routeIn, allMoves}
@@ -62,11 +65,12 @@ right : (e : Worked)
     → Given (e .falling) (rowsFor (e .cabling) false)
     → Given (e .links-image) (imageOf linksKinds (e .cabling))
     → Given (e .full-image) (imageOf fullKinds (e .cabling))
+    → Given (e .sheet) (sheetOf (e .cabling))
     → listFault (e .cabling .nodes) (e .messages) ≡ Fine
     → allMoves (e .cabling .nodes) (links (e .cabling)) (e .labels) (e .messages) ≡ e .moves
     → ((full : Bool) → pickOf 0 (freshOf (imageOf (kindsOf full) (e .cabling)) (e .messages)) .look ≡ e .look)
     → Right e
-right e fine labels turns barred first free falling short long listed sum look =
+right e fine labels turns barred first free falling short long sheet listed sum look =
     let c = e .cabling in
     let good = fault-fine c .0 fine in
     record {
@@ -79,6 +83,7 @@ right e fine labels turns barred first free falling short long listed sum look =
       falling = falling;
       links-image = short;
       full-image = long;
+      sheet = sheet;
       moves = λ full old seed.
           drained-moves c (e .messages) good listed full old seed ∙ ap (λ (l : List ℕ). allMoves (c .nodes) (links c) l (e .messages)) labels ∙ sum;
       look = look;
@@ -96,11 +101,12 @@ unfolding _&_ _or_ non same below sumTo any all least leastValue lowestAt leastB
     leads joining layer lowestLead firstLayer entry freeAfter follow routeOf room candidate choice remains give stage labelled labelsOf turnsThat
     faultOf linkFault nodeFault unreached crowded badPair notAbove isAbove badEnds isShaped isCounted
     rowsOf entriesOf joinedUp imageFrom bodiesOf imageOf messagesIn routeIn allMoves fits strange listFault begunOf freshOf lookAt pickOf
+    places decimalOf fieldsOf linkLines sheetOf
 every-right =
-    and-this (right link refl refl refl refl refl refl refl refl refl refl refl (λ full. refl))
-    (and-this (right triangle refl refl refl refl refl refl refl tt tt refl refl (λ full. refl))
-    (and-this (right path refl refl refl refl refl refl refl tt tt refl refl (λ full. refl))
-    (and-this (right ring refl refl refl refl refl refl refl tt tt refl refl (λ full. refl))
-    (and-this (right hub refl refl refl refl refl refl refl tt tt refl refl (λ full. refl))
-    (and-this (right all-four refl refl refl refl refl refl refl tt tt refl refl (λ full. refl))
-    (and-this (right blocks refl refl refl refl refl tt tt tt tt refl refl (λ full. refl)) no-entry))))))
+    and-this (right link refl refl refl refl refl refl refl refl refl refl refl refl (λ full. refl))
+    (and-this (right triangle refl refl refl refl refl refl refl tt tt tt refl refl (λ full. refl))
+    (and-this (right path refl refl refl refl refl refl refl tt tt tt refl refl (λ full. refl))
+    (and-this (right ring refl refl refl refl refl refl refl tt tt refl refl refl (λ full. refl))
+    (and-this (right hub refl refl refl refl refl refl refl tt tt tt refl refl (λ full. refl))
+    (and-this (right all-four refl refl refl refl refl refl refl tt tt tt refl refl (λ full. refl))
+    (and-this (right blocks refl refl refl refl refl tt tt tt tt tt refl refl (λ full. refl)) no-entry))))))

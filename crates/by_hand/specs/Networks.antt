@@ -3,8 +3,8 @@ use mathlib.Core.List.{List, [], _∷_}
 use Prim.Native.Nat.{ℕ}
 use Rattle.cabling.specs.Cabling.{Cabling, cabled}
 
--- a cabling, with what the rules give for it: the labels, T, W, the node that is labelled first, both tables of rows and both images; then messages, how many
--- successful moves drain them, and which of them seed 0 looks at first. Rows and images that are left empty are not worked by hand
+-- a cabling, with what the rules give for it: the labels, T, W, the node that is labelled first, both tables of rows, both images and the sheet; then messages, how
+-- many successful moves drain them, and which of them seed 0 looks at first. Rows, images and sheets that are left empty are not worked by hand
 pub record Worked : Type 0 where
   pub cabling : Cabling
   pub labels : List ℕ
@@ -15,12 +15,13 @@ pub record Worked : Type 0 where
   pub falling : List ℕ
   pub links-image : List ℕ
   pub full-image : List ℕ
+  pub sheet : List ℕ
   pub messages : List ℕ
   pub moves : ℕ
   pub look : ℕ
 
 -- RULES 11.1: "Link 0-1: labels 1, 2. Its links image is 01 01 01 00 08 00 04 00 02 00 00 01. The bodies of its full image are 02 00 00 01, 01 02, 00 01 00 01,
--- 00 FF 00 01; it has 40 bytes."
+-- 00 FF 00 01; it has 40 bytes."; "The sheet of the link is 32 0A 30 20 31 0A in hexadecimal; that of the ring is in 10.6."
 abbrev pub link : Worked
 link = record {
   cabling = cabled 2 (0 ∷ 1 ∷ []);
@@ -32,6 +33,7 @@ link = record {
   falling = 0 ∷ 255 ∷ 0 ∷ 1 ∷ [];
   links-image = 1 ∷ 1 ∷ 1 ∷ 0 ∷ 8 ∷ 0 ∷ 4 ∷ 0 ∷ 2 ∷ 0 ∷ 0 ∷ 1 ∷ [];
   full-image = 1 ∷ 4 ∷ 1 ∷ 0 ∷ 26 ∷ 0 ∷ 4 ∷ 0 ∷ 2 ∷ 0 ∷ 30 ∷ 0 ∷ 2 ∷ 0 ∷ 3 ∷ 0 ∷ 32 ∷ 0 ∷ 4 ∷ 0 ∷ 4 ∷ 0 ∷ 36 ∷ 0 ∷ 4 ∷ 0 ∷ 2 ∷ 0 ∷ 0 ∷ 1 ∷ 1 ∷ 2 ∷ 0 ∷ 1 ∷ 0 ∷ 1 ∷ 0 ∷ 255 ∷ 0 ∷ 1 ∷ [];
+  sheet = 50 ∷ 10 ∷ 48 ∷ 32 ∷ 49 ∷ 10 ∷ [];
   messages = [];
   moves = 0;
   look = 0;
@@ -49,6 +51,7 @@ triangle = record {
   falling = 0 ∷ 255 ∷ 255 ∷ 0 ∷ 1 ∷ 255 ∷ 0 ∷ 1 ∷ 2 ∷ [];
   links-image = [];
   full-image = [];
+  sheet = [];
   messages = [];
   moves = 0;
   look = 0;
@@ -66,6 +69,7 @@ path = record {
   falling = 0 ∷ 255 ∷ 255 ∷ 0 ∷ 1 ∷ 255 ∷ 1 ∷ 1 ∷ 2 ∷ [];
   links-image = [];
   full-image = [];
+  sheet = [];
   messages = [];
   moves = 0;
   look = 0;
@@ -84,6 +88,7 @@ ring = record {
   falling = 0 ∷ 255 ∷ 255 ∷ 255 ∷ 0 ∷ 1 ∷ 255 ∷ 255 ∷ 1 ∷ 1 ∷ 2 ∷ 255 ∷ 0 ∷ 2 ∷ 2 ∷ 3 ∷ [];
   links-image = [];
   full-image = [];
+  sheet = 52 ∷ 10 ∷ 48 ∷ 32 ∷ 49 ∷ 10 ∷ 48 ∷ 32 ∷ 51 ∷ 10 ∷ 49 ∷ 32 ∷ 50 ∷ 10 ∷ 50 ∷ 32 ∷ 51 ∷ 10 ∷ [];
   messages = 0 ∷ 2 ∷ 1 ∷ 3 ∷ 2 ∷ 0 ∷ 3 ∷ 1 ∷ [];
   moves = 12;
   look = 2;
@@ -101,6 +106,7 @@ hub = record {
   falling = 0 ∷ 1 ∷ 2 ∷ 255 ∷ 255 ∷ 1 ∷ 255 ∷ 255 ∷ 255 ∷ 255 ∷ 2 ∷ 255 ∷ 0 ∷ 0 ∷ 0 ∷ 3 ∷ [];
   links-image = [];
   full-image = [];
+  sheet = [];
   messages = [];
   moves = 0;
   look = 0;
@@ -118,6 +124,7 @@ all-four = record {
   falling = 0 ∷ 255 ∷ 255 ∷ 255 ∷ 0 ∷ 1 ∷ 255 ∷ 255 ∷ 0 ∷ 1 ∷ 2 ∷ 255 ∷ 0 ∷ 1 ∷ 2 ∷ 3 ∷ [];
   links-image = [];
   full-image = [];
+  sheet = [];
   messages = [];
   moves = 0;
   look = 0;
@@ -136,6 +143,7 @@ blocks = record {
   falling = [];
   links-image = [];
   full-image = [];
+  sheet = [];
   messages = [];
   moves = 0;
   look = 0;

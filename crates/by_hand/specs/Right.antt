@@ -8,6 +8,7 @@ use Rattle.turns.specs.Turns.{allTurns, prohibitedTurns}
 use Rattle.fabric.specs.Fabric.{labelsFor, labelFor, rowsFor}
 use Rattle.format.specs.Contents.{linksKinds, fullKinds}
 use Rattle.image.specs.Image.{imageOf, kindsOf}
+use Rattle.sheets.specs.Sheet.{sheetOf}
 use Rattle.messages.specs.declared.Record.{Record}
 use Rattle.start.specs.Start.{freshOf}
 use Rattle.picking.specs.Order.{pickOf}
@@ -32,6 +33,8 @@ pub record Right (e : Worked) : Type 0 where
   pub falling : Given (e .falling) (rowsFor (e .cabling) false)
   pub links-image : Given (e .links-image) (imageOf linksKinds (e .cabling))
   pub full-image : Given (e .full-image) (imageOf fullKinds (e .cabling))
+  -- RULES 11.1: "The sheet of the link is 32 0A 30 20 31 0A in hexadecimal; that of the ring is in 10.6."
+  pub sheet : Given (e .sheet) (sheetOf (e .cabling))
   -- RULES 11.1: "take 12 successful moves": so many a drain counts over either image, whatever its seed and whatever the record was
   pub moves : (full : Bool) (old : Record) (seed : ℕ) → drainOf old (imageOf (kindsOf full) (e .cabling)) (e .messages) seed .«record» .moves ≡ e .moves
   -- RULES 11.1: "From seed 0 the drain looks at message 2 first": in its first turn

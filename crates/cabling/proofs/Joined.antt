@@ -1,12 +1,12 @@
 -- Where the ends of every pair are fine, the links join nodes alone, the table holds them all, and the nodes are connected just where walks lead from
 -- node 0 to each.
-use mathlib.Core.Path.{_≡_, sym, _∙_, fun-ext}
+use mathlib.Core.Path.{_≡_, sym, _∙_, subst, fun-ext}
 use mathlib.Core.Bool.{true}
-use Prim.Native.Nat.{ℕ, _/_, _≤_, _<_}
+use Prim.Native.Nat.{ℕ, _+_, _*_, _/_, _%_, _≤_, _<_}
 use native.Mathlib.Omega.{arith}
-use lib.ListN.{length}
+use lib.ListN.{length, getD, List·getD-eq-default}
 use Rattle.finite.specs.Truth.{below}
-use Rattle.finite.proofs.Truth.{iff, below-lt, lt-below}
+use Rattle.finite.proofs.Truth.{bcase, iff, below-lt, below-le, lt-below}
 use Rattle.finite.proofs.Search.{any-some}
 use Rattle.graph.specs.Network.{Network, Walk, Connected, among}
 use Rattle.graph.proofs.Walk.{walk-map, walk-append, walk-reverse, among-edge, edge-among}
@@ -56,3 +56,17 @@ good-network {c} g = ends-network c (g .ends)
 
 pub table-links : {c : Cabling} → Good c → edgeOf (tableOf (c .pairs)) ≡ links c
 table-links {c} g = ends-table c (g .ends) (g .few)
+
+-- each byte of its pairs is a node
+pub good-low : {c : Cabling} → Good c → (i : ℕ) → getD (c .pairs) i 0 < c .nodes
+good-low {c} g i =
+    let many = g .many in
+    bcase (below i (length (c .pairs)))
+    (λ t.
+    let l = below-lt _ _ t in
+    let even = g .even in
+    let (low, high) = g .ends (i / 2) (omega arith) in
+    bcase (below (i % 2) 1)
+    (λ u. let r = below-lt _ _ u in let e : 2 * (i / 2) ≡ i = omega arith in subst (λ (j : ℕ). getD (c .pairs) j 0 < c .nodes) e (omega arith))
+    (λ u. let r = below-le _ _ u in let e : 2 * (i / 2) + 1 ≡ i = omega arith in subst (λ (j : ℕ). getD (c .pairs) j 0 < c .nodes) e high))
+    (λ t. rw (List·getD-eq-default (c .pairs) 0 (below-le _ _ t)) (omega arith))

@@ -7,3 +7,4 @@ pub mod Rising
 pub mod Meaning
 pub mod Example
 pub mod Determined
+pub mod Held

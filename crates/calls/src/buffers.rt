@@ -1,4 +1,4 @@
-// Calls that write into a lent buffer: route, read, write and build. Each prints its answer, and then the whole buffer.
+// Calls that write into a lent buffer: route, read, write, build, cable and sheet. Each prints its answer, and then the whole buffer.
 use crate::answers;
 use crate::arguments;
 use reading::Outcome;
@@ -104,5 +104,39 @@ pub fn build(args: &[u8]) -> bool {
     let size = format::number_at(rest, 0);
     let mut space = io::large_buffer();
     built(arguments::bytes(args), &mut space[0..size]);
+    true
+}
+
+fn cabled(sheet: &[u8], buffer: &mut [u8]) {
+    fill(buffer);
+    answers::written(b"cabled", sheets::cable(sheet, buffer));
+    buffer_line(buffer);
+}
+
+pub fn cable(args: &[u8]) -> bool {
+    let rest = arguments::after_bytes(args);
+    if rest.len() != 2 {
+        return false;
+    }
+    let size = format::number_at(rest, 0);
+    let mut space = io::large_buffer();
+    cabled(arguments::bytes(args), &mut space[0..size]);
+    true
+}
+
+fn sheeted(image: &[u8], buffer: &mut [u8]) {
+    fill(buffer);
+    answers::written(b"sheet", sheets::sheet(image, buffer));
+    buffer_line(buffer);
+}
+
+pub fn sheet(args: &[u8]) -> bool {
+    let rest = arguments::after_bytes(args);
+    if rest.len() != 2 {
+        return false;
+    }
+    let size = format::number_at(rest, 0);
+    let mut space = io::large_buffer();
+    sheeted(arguments::bytes(args), &mut space[0..size]);
     true
 }

@@ -5,7 +5,7 @@ ghost use lib.ListN.{length};
 
 mod answers; // answers.rt: what is printed
 mod arguments; // arguments.rt: the arguments, taken from the input's front
-mod buffers; // buffers.rt: route, read, write and build, with a lent buffer
+mod buffers; // buffers.rt: route, read, write, build, cable and sheet, with a lent buffer
 mod machines; // machines.rt: steps and trace, of the drain machine
 mod tables; // tables.rt: entry, walk, row and hop
 
@@ -29,6 +29,8 @@ fn call(selector: u8, args: &[u8]) -> bool {
         7 => buffers::build(args),
         8 => machines::steps(args),
         9 => machines::trace(args),
+        10 => buffers::cable(args),
+        11 => buffers::sheet(args),
         _ => false,
     }
 }

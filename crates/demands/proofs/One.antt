@@ -15,11 +15,11 @@ use Rattle.refusal.specs.declared.Refusal.the-variants.{Short, Unknown}
 use Rattle.refusal.proofs.Determined.{refusal-unique}
 use Rattle.refusal.specs.declared.Verdict.{Verdict}
 use Rattle.refusal.specs.declared.Verdict.the-variants.{Fine, Fault}
-use Rattle.refusal.proofs.Verdicts.{fine-fault}
+use Rattle.refusal.proofs.Verdicts.{fine-fault, then-fault}
 use Rattle.cabling.specs.Faults.{faultOf}
 use Rattle.cabling.specs.Verdicts.{Means}
 use Rattle.cabling.proofs.Meaning.{fault-means}
-use Rattle.format.specs.Contents.{fullKinds, nodesIn, pairsIn}
+use Rattle.format.specs.Contents.{linksKinds, fullKinds, nodesIn, pairsIn}
 use Rattle.contents.proofs.Determined.{step-determined}
 use Rattle.results.specs.declared.Written.the-variants.{NotWritten}
 use Rattle.results.specs.Written.{writtenOf, Writes}
@@ -29,11 +29,15 @@ use Rattle.image.specs.Image.{imageOf, kindsOf, cablingIn}
 use Rattle.image.specs.Faults.{linksFault, imageFault}
 use Rattle.reading.specs.Reads.{outcomeOf, Reads}
 use Rattle.image.specs.Verdicts.{OfLinks}
-use Rattle.image.proofs.Faults.{then-fault}
 use Rattle.image.proofs.Meaning.{links-means, either-means}
 use Rattle.reading.proofs.Reading.{outcome-refused, reads-determined, read-refused, read-untouched}
 use Rattle.route.specs.Route.{routeFault, routeBytes}
 use Rattle.route.proofs.Cases.{ends-refused, not-refused}
+use Rattle.sheets.specs.Sheet.{sheetOf, cablingOn}
+use Rattle.sheets.specs.Faults.{sheetFault}
+use Rattle.sheets.specs.Verdicts.{OfSheet}
+use Rattle.sheets.specs.Promises.{Cables, Sheets}
+use Rattle.sheets.proofs.Meaning.{sheet-means}
 use Rattle.hops.specs.declared.HopAnswer.the-variants as hop
 use Rattle.messages.specs.declared.Record.{Record}
 use Rattle.messages.specs.declared.Stepped.{Stepped}
@@ -48,7 +52,7 @@ use Rattle.hops.proofs.Meaning.{row-refused-iff, hop-refused-iff, hop-refusal}
 use Rattle.start.specs.declared.Started.{Started}
 use Rattle.start.specs.Start.{startFault, recordAfter, startOf}
 use Rattle.start.proofs.Meaning.{start-means}
-use Rattle.demands.specs.Calls.{ReaderStep, Never, NoRows, NotStarts, Start, StartRows, NotMoves, Move, MoveRows, NoRow, Row, RowRows, NoHop, Hop, HopRows, Numbered, KeepsPromise, RefusalRows, fault, short, NotWrites, Write, WriteRows, Build, BuildRows, NotReads, ReadRows, OfRoute, of-image, no-node, of-nodes, Route, RouteRows}
+use Rattle.demands.specs.Calls.{ReaderStep, Never, NoRows, NotStarts, Start, StartRows, NotMoves, Move, MoveRows, NoRow, Row, RowRows, NoHop, Hop, HopRows, Numbered, KeepsPromise, RefusalRows, fault, short, NotWrites, Write, WriteRows, Build, BuildRows, CableRows, SheetRows, NotReads, ReadRows, OfRoute, of-image, no-node, of-nodes, Route, RouteRows}
 
 -- the same refusals, so the same numbers and places
 numbered : {P Q : Refusal → Type 0} → ((r : Refusal) → P r ↔ Q r) → (number place : ℕ) → Numbered P number place ↔ Numbered Q number place
@@ -89,6 +93,18 @@ write-keeps = writes-keep (λ i. faultOf (i .0)) (λ i. imageOf (kindsOf (i .1))
 
 pub build-keeps : KeepsPromise Build NotWrites BuildRows
 build-keeps = writes-keep linksFault (λ b. imageOf fullKinds (cablingIn b)) OfLinks links-means
+
+pub cable-keeps : KeepsPromise Cables NotWrites CableRows
+cable-keeps = writes-keep sheetFault (λ s. imageOf linksKinds (cablingOn s)) OfSheet sheet-means
+
+pub sheet-keeps : KeepsPromise Sheets NotWrites SheetRows
+sheet-keeps =
+    let k = writes-keep linksFault (λ b. sheetOf (cablingIn b)) OfLinks links-means in
+    record {
+      one = λ b s t u x y p q. k .one b s t u x y (p .writes) (q .writes);
+      given = λ b s t a p. k .given b s t a (p .writes);
+      untouched = λ b s t a r p. k .untouched b s t a r (p .writes);
+    }
 
 route-means : (b : List ℕ) (s t : ℕ) (v : Verdict) → (routeFault b s t ≡ v) ↔ OfRoute b s t v
 route-means b s t v = (λ e. rw (← e) row, given)

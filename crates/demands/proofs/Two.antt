@@ -1,5 +1,5 @@
--- Demand 2 (RULES 2.2): for every good cabling. Each premise `Writes ..` or `Reads ..` is the promise of the call that the sentence names, whatever buffer
--- was lent.
+-- Demand 2 (RULES 2.2): for every good cabling. Each premise `Writes ..`, `Reads ..`, `Cables ..` or `Sheets ..` is the promise of the call that the sentence
+-- names, whatever buffer was lent.
 use mathlib.Core.Path.{_≡_, sym, _∙_}
 use mathlib.Core.Bool.{Bool, true, false}
 use mathlib.Core.List.{List}
@@ -29,6 +29,9 @@ use Rattle.image.proofs.Sizes.{full-size}
 use Rattle.image.proofs.Images.{read-kind, full-bodies}
 use Rattle.reading.proofs.Calls.{read-written, write-read}
 use Rattle.writing.proofs.Calls.{never-refused, build-as-write}
+use Rattle.sheets.specs.Sheet.{sheetOf, cablingOn}
+use Rattle.sheets.specs.Promises.{Cables, Sheets}
+use Rattle.sheets.proofs.Calls.{cable-never-refused, sheet-never-refused, cabled-sheet, sheet-again, image-again, one-sheet, cable-size, sheet-written-size}
 use Rattle.demands.specs.Rules.{ByTheRule, Built}
 
 module _ (c : Cabling) (g : Good c) where
@@ -79,9 +82,40 @@ module _ (c : Cabling) (g : Good c) where
         → (answer ≡ Bytes (length (imageOf (kindsOf full) c))) × (after ≡ placed (imageOf (kindsOf full) c) before)
     demand-2-write = never-refused c g
 
+    -- cable makes the links image of a cabling's sheet, and sheet the sheet of its links image
+    pub demand-2-cable : {answer : Written} → length (imageOf linksKinds c) ≤ length before → Cables (sheetOf c) before answer after
+        → (answer ≡ Bytes (length (imageOf linksKinds c))) × (after ≡ placed (imageOf linksKinds c) before)
+    demand-2-cable = cable-never-refused g
+
+    pub demand-2-sheet : {answer : Written} → length (sheetOf c) ≤ length before → Sheets (imageOf linksKinds c) before answer after
+        → (answer ≡ Bytes (length (sheetOf c))) × (after ≡ placed (sheetOf c) before)
+    demand-2-sheet = sheet-never-refused g
+
 -- writing what was read gives back the same bytes: of any image that read accepts
 pub demand-2-back : (b before after : List ℕ) (n m : ℕ) (full : Bool) → Reads b before (Read n m full) after
     → {room left : List ℕ} {answer : Written} → length b ≤ length room
     → Writes (faultOf (cabled n (take (2 * m) after))) (imageOf (kindsOf full) (cabled n (take (2 * m) after))) room answer left
     → (answer ≡ Bytes (length b)) × (left ≡ placed b room)
 demand-2-back = write-read
+
+-- what cable accepts is the sheet of a good cabling, and what it writes is that cabling's links image
+pub demand-2-only-sheets : (s before after : List ℕ) (m : ℕ) → Cables s before (Bytes m) after
+    → (c : Cabling) × Good c × (s ≡ sheetOf c) × (take m after ≡ imageOf linksKinds c)
+demand-2-only-sheets s before after m w = let (g, e, front) = cabled-sheet s before after m w in (cablingOn s, g, e, front)
+
+-- RULES 6.5: "A sheet has at most 3,075 bytes.": what cable accepts, and what sheet writes
+pub demand-2-sheet-size : (s before after : List ℕ) (m : ℕ) → (Cables s before (Bytes m) after → length s ≤ 3075) × (Sheets s before (Bytes m) after → m ≤ 3075)
+demand-2-sheet-size s before after m = (cable-size s before after m, sheet-written-size s before after m)
+
+-- RULES 2.2: "Every accepted cabling has exactly one sheet.": that of `demand-2-cable`, and no two sheets become the same image
+pub demand-2-one-sheet : (s t before after room left : List ℕ) (m n : ℕ) → Cables s before (Bytes m) after → Cables t room (Bytes n) left → take m after ≡ take n left → s ≡ t
+demand-2-one-sheet = one-sheet
+
+-- RULES 2.2: "From a sheet to its links image and back, and from a links image to its sheet and back, the same bytes come out."
+pub demand-2-sheet-again : (s before after : List ℕ) (m : ℕ) → Cables s before (Bytes m) after
+    → {room left : List ℕ} {answer : Written} → length s ≤ length room → Sheets (take m after) room answer left → (answer ≡ Bytes (length s)) × (left ≡ placed s room)
+demand-2-sheet-again = sheet-again
+
+pub demand-2-image-again : (b before after : List ℕ) (m : ℕ) → Sheets b before (Bytes m) after
+    → {room left : List ℕ} {answer : Written} → length b ≤ length room → Cables (take m after) room answer left → (answer ≡ Bytes (length b)) × (left ≡ placed b room)
+demand-2-image-again = image-again

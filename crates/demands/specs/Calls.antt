@@ -17,7 +17,7 @@ use Rattle.cabling.specs.Verdicts.{Means}
 use Rattle.hops.specs.declared.HopAnswer.{HopAnswer}
 use Rattle.hops.specs.declared.HopAnswer.the-variants as hop
 use Rattle.hops.specs.Row.{RowFault, rowIn, hopIn}
-use Rattle.format.specs.Contents.{fullKinds, nodesIn, pairsIn}
+use Rattle.format.specs.Contents.{linksKinds, fullKinds, nodesIn, pairsIn}
 use Rattle.format.specs.declared.Entry.{Entry}
 use Rattle.contents.specs.declared.Reader.{Reader}
 use Rattle.contents.specs.Walking.{stepFrom}
@@ -30,6 +30,8 @@ use Rattle.image.specs.Verdicts.{OfLinks, OfEither}
 use Rattle.reading.specs.declared.Outcome.{Outcome}
 use Rattle.reading.specs.declared.Outcome.the-variants.{NotRead}
 use Rattle.route.specs.Route.{routeFault, routeBytes}
+use Rattle.sheets.specs.Sheet.{sheetOf, cablingOn}
+use Rattle.sheets.specs.Verdicts.{OfSheet}
 use Rattle.messages.specs.Sizes.{maxMessages}
 use Rattle.messages.specs.declared.Record.{Record}
 use Rattle.messages.specs.declared.Answer.{Answer}
@@ -72,6 +74,14 @@ Build b before a after = Writes (linksFault b) (imageOf fullKinds (cablingIn b))
 
 abbrev pub BuildRows : List ℕ → List ℕ → Refusal → Type 0
 BuildRows b before = RefusalRows (OfLinks b) (length (imageOf fullKinds (cablingIn b))) (length before)
+
+-- 12, and then those of the cabling
+abbrev pub CableRows : List ℕ → List ℕ → Refusal → Type 0
+CableRows s before = RefusalRows (OfSheet s) (length (imageOf linksKinds (cablingOn s))) (length before)
+
+-- those of build
+abbrev pub SheetRows : List ℕ → List ℕ → Refusal → Type 0
+SheetRows b before = RefusalRows (OfLinks b) (length (sheetOf (cablingIn b))) (length before)
 
 abbrev pub NotReads : Outcome → Refusal → Type 0
 NotReads a r = a ≡ NotRead r

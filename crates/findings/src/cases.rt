@@ -1,5 +1,5 @@
 // The networks that are run (RULES 11.2): empty input; 1, 64 and 65 nodes; 513 pairs; a pair turned round; a pair twice; degrees 16 and 17; two parts; no
-// messages.
+// messages; and sheets.
 ghost use Prim.Native.Nat.{_≤_, _<_};
 ghost use lib.ListN.{length};
 use crate::inputs;
@@ -105,6 +105,25 @@ fn tell_no_messages() {
     inputs::tell_drained(slices::front(&buffer, end), b"");
 }
 
+// What Cable prints for a sheet.
+fn tell_sheet(name: &[u8], sheet: &[u8]) {
+    let mut out = [0u8; sheeted::LONGEST_CABLE];
+    let written = sheeted::cable(sheet, &mut out);
+    io::write_all(1, name);
+    lines::say(written, &out);
+}
+
+fn tell_sheets() {
+    tell_sheet(b"an empty sheet: ", b"");
+    tell_sheet(b"links 0-1 and 2-3 on a sheet: ", b"4\n0 1\n2 3\n");
+    tell_sheet(b"a pair twice on a sheet: ", b"4\n0 1\n0 1\n");
+    tell_sheet(b"a sheet's last line not closed: ", b"2\n0 1");
+    tell_sheet(b"two spaces on a sheet: ", b"2\n0  1\n");
+    tell_sheet(b"an empty line alone: ", b"\n");
+    tell_sheet(b"a sheet of one node: ", b"1\n");
+    tell_sheet(b"the pair (1, 0) on a sheet: ", b"2\n1 0\n");
+}
+
 pub fn tell_all() {
     tell(b"no input: ", b"");
     tell_tree(b"1 node: ", 1, true);
@@ -120,4 +139,5 @@ pub fn tell_all() {
     let apart = [0u8, 1, 2, 3];
     tell_pairs(b"links 0-1 and 2-3: ", 4, &apart);
     tell_no_messages();
+    tell_sheets();
 }

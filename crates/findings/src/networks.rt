@@ -1,5 +1,5 @@
 // An entry of the table, as the crate `worked` lays it out, and what is found of it: of its links image Show's lines, and where it has messages, Drain's line for
-// seed 0 and the message that is looked at first; the bytes of both images and the falling rows, where the entry has them.
+// seed 0 and the message that is looked at first; the bytes of both images, the falling rows and the sheet, where the entry has them.
 ghost use Prim.Native.Nat.{_+_, _≤_, _<_};
 use crate::inputs;
 use crate::inputs::ROOM;
@@ -12,6 +12,7 @@ struct Entry {
     falling: usize,
     links: usize,
     full: usize,
+    sheet: usize,
     messages: usize,
     next: usize,
 }
@@ -40,7 +41,7 @@ fn list(table: &[u8], at: usize) -> &[u8] {
 
 // The entry at place `at`.
 fn entry_at(table: &[u8], at: usize) -> Entry
-    requires { ⌜ at ≤ 472 ⌝ }
+    requires { ⌜ at ≤ 503 ⌝ }
     ensures { λ r. ⌜ (at < r .next) × (r .next ≤ 4096) ⌝ }
 {
     let nodes = slices::byte(table, at) as usize;
@@ -49,7 +50,8 @@ fn entry_at(table: &[u8], at: usize) -> Entry
     let falling = behind(table, free);
     let links = behind(table, falling);
     let full = behind(table, links);
-    let messages = behind(table, full);
+    let sheet = behind(table, full);
+    let messages = behind(table, sheet);
     let next = behind(table, messages) + 2;
     Entry {
         nodes,
@@ -57,6 +59,7 @@ fn entry_at(table: &[u8], at: usize) -> Entry
         falling,
         links,
         full,
+        sheet,
         messages,
         next,
     }
@@ -121,17 +124,31 @@ fn tell_full(table: &[u8], e: Entry, image: &[u8]) {
     tell_falling(image, list(table, e.falling));
 }
 
+// The sheet of the links image.
+fn tell_sheet(image: &[u8], listed: &[u8]) {
+    if listed.len() == 0 {
+        return;
+    }
+    let mut out = [0u8; sheets::LONGEST];
+    let written = sheets::sheet(image, &mut out);
+    if let Written::Bytes(m) = written {
+        tell_bytes(b"sheet", slices::front(&out, m));
+    }
+}
+
 fn tell_entry(table: &[u8], e: Entry, buffer: &mut [u8]) {
     let links = laid(table, e, false, buffer);
     tell_links(table, e, slices::front(buffer, links));
     let full = laid(table, e, true, buffer);
     tell_full(table, e, slices::front(buffer, full));
+    let again = laid(table, e, false, buffer);
+    tell_sheet(slices::front(buffer, again), list(table, e.sheet));
 }
 
 // Every entry.
 pub fn tell_all(table: &[u8]) {
     let mut at = 0;
-    while at < 472 {
+    while at < 503 {
         let e = entry_at(table, at);
         let mut space = io::large_buffer();
         tell_entry(table, e, &mut space);

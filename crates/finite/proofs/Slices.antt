@@ -5,11 +5,8 @@ use Prim.Native.Nat.{ℕ, suc, _-_, _≤_, _<_}
 use native.Mathlib.Nat.{add-zero}
 use native.Mathlib.Numerals.{add-one}
 use native.Mathlib.Omega.{arith}
-use lib.ListN.{length, getD, take, drop, length-drop, drop-of-length-le}
-use lib.Seq.{getD-drop, drop-drop, take-nil, take-all, drop-cons}
-
-pub part-none : (l : List ℕ) (a n : ℕ) → length l ≤ a → take n (drop a l) ≡ []
-part-none l a n h = ap (take n) (drop-of-length-le l h) ∙ take-nil n
+use lib.ListN.{length, getD, take, drop, length-drop}
+use lib.Seq.{getD-drop, drop-drop, take-all, drop-cons}
 
 pub part-rest : (l : List ℕ) (a n : ℕ) → length l - a ≤ n → take n (drop a l) ≡ drop a l
 part-rest l a n h = take-all n (drop a l) (let e = length-drop a l in omega arith)

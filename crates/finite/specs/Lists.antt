@@ -1,4 +1,4 @@
--- A list given by its elements; zeros behind a list; and the test whether two lists are the same.
+-- A list given by its elements; zeros behind a list; lists one behind the other; and the test whether two lists are the same.
 use mathlib.Core.Bool.{Bool, true, false}
 use mathlib.Core.List.{List, [], _∷_, _++_}
 use Prim.Native.Nat.{ℕ, zero, suc, _-_}
@@ -18,6 +18,11 @@ tabulate n f = upFrom 0 n f
 -- a list and zeros behind it, k in all
 unfoldable pub padded : ℕ → List ℕ → List ℕ
 padded k l = l ++ replicate (k - length l) 0
+
+-- lists joined, one behind the other
+unfoldable pub joinedUp : List (List ℕ) → List ℕ
+joinedUp [] = []
+joinedUp (l ∷ ls) = l ++ joinedUp ls
 
 -- two lists of numbers are the same
 unfoldable pub alike : List ℕ → List ℕ → Bool

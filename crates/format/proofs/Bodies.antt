@@ -7,11 +7,12 @@ use Prim.Native.Nat.{ℕ, zero, suc, _+_, _*_, _/_, _%_, _≤_}
 use native.Mathlib.Omega.{arith}
 use lib.ListN.{length, getD, take, drop, take-append-drop}
 use lib.Seq.{drop-drop, drop-length}
+use Rattle.finite.specs.Lists.{joinedUp}
 use Rattle.finite.proofs.Truth.{both, and-l, and-r}
 use Rattle.finite.proofs.Lists.{alike-eq, eq-alike}
 use Rattle.finite.proofs.Slices.{drop-next}
 use Rattle.format.specs.Contents.{numberAt, kindAt, secondAt, lengthAt, beginOf, inOrder}
-use Rattle.format.specs.Bytes.{AllBytes, entriesOf, lengthsOf, joinedUp, imageFrom, bodyAt, bodiesFrom, sameBodies}
+use Rattle.format.specs.Bytes.{AllBytes, entriesOf, lengthsOf, imageFrom, bodyAt, bodiesFrom, sameBodies}
 use Rattle.format.proofs.Contents.{Parts, in-order-parts}
 use Rattle.format.proofs.Order.{begin-none, begin-more, parts-fit, parts-body, in-order-size}
 

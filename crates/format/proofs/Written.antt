@@ -7,6 +7,7 @@ use native.Mathlib.Nat.{zero-add, add-zero}
 use native.Mathlib.Omega.{arith}
 use lib.ListN.{length, getD, take, drop, length-append, length-map}
 use lib.Seq.{getD-drop, drop-drop, drop-at, drop-append-seam, take-append-seam}
+use Rattle.finite.specs.Lists.{joinedUp}
 use Rattle.finite.specs.Truth.{same}
 use Rattle.finite.specs.Sum.{sumTo}
 use Rattle.finite.proofs.Truth.{bcase, same-eq, same-ne}
@@ -14,7 +15,7 @@ use Rattle.finite.proofs.Sum.{sum-first}
 use Rattle.finite.proofs.Search.{every-all}
 use Rattle.format.specs.Limits.{maxImage}
 use Rattle.format.specs.Contents.{lengthAt, beginOf, fitting, inOrder}
-use Rattle.format.specs.Bytes.{entryBytes, entriesOf, lengthsOf, joinedUp, imageFrom, bodiesFrom}
+use Rattle.format.specs.Bytes.{entryBytes, entriesOf, lengthsOf, imageFrom, bodiesFrom}
 use Rattle.format.proofs.Contents.{parts-in-order}
 use Rattle.format.proofs.Order.{Fits, fits-fitting, begin-none, begin-more}
 

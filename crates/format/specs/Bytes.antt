@@ -4,7 +4,7 @@ use mathlib.Core.List.{List, [], _∷_, _++_, map}
 use Prim.Native.Nat.{ℕ, zero, suc, _+_, _*_, _/_, _%_, _<_}
 use lib.ListN.{length, getD, take, drop}
 use Rattle.finite.specs.Truth.{_&_}
-use Rattle.finite.specs.Lists.{alike}
+use Rattle.finite.specs.Lists.{alike, joinedUp}
 use Rattle.format.specs.Contents.{offsetAt, lengthAt}
 
 -- each number of the list is a byte: every lent slice of bytes meets it
@@ -26,10 +26,6 @@ entriesOf kind offset (size ∷ sizes) = entryBytes kind offset size ++ entriesO
 
 abbrev pub lengthsOf : List (List ℕ) → List ℕ
 lengthsOf bodies = map length bodies
-
-unfoldable pub joinedUp : List (List ℕ) → List ℕ
-joinedUp [] = []
-joinedUp (body ∷ bodies) = body ++ joinedUp bodies
 
 -- RULES 6.1: "Byte 0 is 1. Byte 1 is the number of contents entries."
 unfoldable pub imageFrom : List (List ℕ) → List ℕ

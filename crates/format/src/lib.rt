@@ -104,15 +104,7 @@ pub fn zero_in(image: &[u8]) -> usize
 fn part(image: &[u8], from: usize, size: usize) -> &[u8]
     ensures { λ r. ⌜ now r ≡ take size (drop from (now (image .entry))) ⌝ }
 {
-    if image.len() <= from {
-        return &image[..0];
-    }
-    let left = image.len() - from;
-    if left <= size {
-        return &image[from..];
-    }
-    let end = from + size;
-    &image[from..end]
+    slices::front(slices::rest(image, from), size)
 }
 
 // The pairs of the cabling that kind 1 holds.

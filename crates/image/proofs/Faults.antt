@@ -1,5 +1,5 @@
 -- The checks of an image, case by case.
-use mathlib.Core.Path.{_≡_, refl, sym, _∙_}
+use mathlib.Core.Path.{_≡_, sym, _∙_}
 use mathlib.Core.Bool.{true, false}
 use mathlib.Core.List.{List}
 use mathlib.Core.Logic.{_⊎_}
@@ -14,7 +14,8 @@ use Rattle.refusal.specs.declared.Refusal.{Refusal}
 use Rattle.refusal.specs.declared.Refusal.the-variants.{Contents, Count, Shape, Differs}
 use Rattle.refusal.specs.declared.Verdict.{Verdict}
 use Rattle.refusal.specs.declared.Verdict.the-variants.{Fine, Fault}
-use Rattle.refusal.proofs.Verdicts.{fine-fault}
+use Rattle.refusal.specs.Verdicts.{andThen}
+use Rattle.refusal.proofs.Verdicts.{fine-fault, and-then-fine}
 use Rattle.cabling.specs.Cabling.{Good}
 use Rattle.cabling.specs.Faults.{faultOf}
 use Rattle.cabling.specs.Verdicts.{Counted}
@@ -24,22 +25,7 @@ use Rattle.format.specs.Contents.{inOrder, linksKinds, fullKinds, nodesIn, zero
 use Rattle.format.specs.Bytes.{sameBodies}
 use Rattle.format.proofs.Order.{in-order-one}
 use Rattle.image.specs.Image.{bodiesOf, cablingIn}
-use Rattle.image.specs.Faults.{andThen, frontFault, cablingFault, tablesFault, linksFault, imageFault}
-
--- ---- one check after the other
-
-pub then-fine : {v : Verdict} (w : Verdict) → v ≡ Fine → andThen v w ≡ w
-unfolding andThen
-then-fine w e = rw e
-
-pub then-fault : {v : Verdict} (w : Verdict) {r : Refusal} → v ≡ Fault r → andThen v w ≡ Fault r
-unfolding andThen
-then-fault w e = rw e
-
-pub and-then-fine : (v w : Verdict) → andThen v w ≡ Fine → (v ≡ Fine) × (w ≡ Fine)
-unfolding andThen
-and-then-fine Fine w h = (refl, h)
-and-then-fine (Fault r) w h = fine-fault h refl
+use Rattle.image.specs.Faults.{frontFault, cablingFault, tablesFault, linksFault, imageFault}
 
 module _ (b : List ℕ) where
   -- ---- 2 and 3

@@ -9,6 +9,7 @@ use lib.ListN.{length, drop}
 use Rattle.finite.proofs.Truth.{bcase}
 use Rattle.nodes.specs.Limits.{maxNodes, maxLinks}
 use Rattle.refusal.specs.declared.Verdict.the-variants.{Fine}
+use Rattle.refusal.proofs.Verdicts.{then-fine, and-then-fine}
 use Rattle.cabling.specs.Cabling.{Cabling, cabled, Good}
 use Rattle.cabling.specs.Faults.{faultOf}
 use Rattle.cabling.proofs.Meaning.{fault-fine}
@@ -20,11 +21,11 @@ use Rattle.format.specs.Bytes.{AllBytes, imageFrom, bodiesFrom}
 use Rattle.format.proofs.Written.{from-in-order, from-bodies}
 use Rattle.format.proofs.Bodies.{same-bodies-iff}
 use Rattle.format.proofs.First.{in-order-image, from-nodes, from-zero, from-pairs}
-use Rattle.image.specs.Longest.{longestImage}
+use Rattle.image.specs.Longest.{longestImage, longestLinks}
 use Rattle.image.specs.Image.{bodiesOf, imageOf, kindsOf, cablingIn}
 use Rattle.image.specs.Faults.{cablingFault, tablesFault, linksFault, imageFault}
 use Rattle.image.proofs.Sizes.{links-size, full-size}
-use Rattle.image.proofs.Faults.{then-fine, and-then-fine, front-fine, cabling-good, tables-fine, tables-same, links-ordered, links-fine, image-full, image-links, image-ordered, not-both}
+use Rattle.image.proofs.Faults.{front-fine, cabling-good, tables-fine, tables-same, links-ordered, links-fine, image-full, image-links, image-ordered, not-both}
 
 -- ---- how long they are
 
@@ -41,6 +42,9 @@ image-size true c g =
     let q = square-le (c .nodes) few in
     omega arith
 image-size false c g = let short = g .short in let s = links-size c in omega arith
+
+pub links-fit : (c : Cabling) → Good c → length (imageOf linksKinds c) ≤ longestLinks
+links-fit c g = let short = g .short in let s = links-size c in omega arith
 
 -- ---- what is written is read back
 
@@ -137,6 +141,13 @@ accepted b byte h =
     let d = and-then-fine _ _ (sym (image-full b t) ∙ h) .1 in
     rw t (full-same b byte t z (same-bodies-iff b 1 (tableBodies (cablingIn b)) .0 (tables-same b d))))
     (λ t. rw t (links-same b byte (links-fine b (sym (image-links b t) ∙ h) .0) z))
+
+-- and of a links image alone
+pub accepted-links : (b : List ℕ) → AllBytes b → linksFault b ≡ Fine → Good (cablingIn b) × (b ≡ imageOf linksKinds (cablingIn b))
+accepted-links b byte h =
+    let (order, cabling) = links-fine b h in
+    let (g, z) = cabling-good b cabling in
+    (g, links-same b byte order z)
 
 -- an image is accepted exactly when it is that of a good cabling, full or links only
 pub accepted-exactly : (b : List ℕ) → AllBytes b → (imageFault b ≡ Fine) ↔ ((full : Bool) × (c : Cabling) × Good c × (b ≡ imageOf (kindsOf full) c))

@@ -11,6 +11,7 @@ use Rattle.finite.proofs.Decide.{by}
 use Rattle.refusal.specs.declared.Refusal.the-variants.{Short}
 use Rattle.refusal.specs.declared.Verdict.{Verdict}
 use Rattle.refusal.specs.declared.Verdict.the-variants.{Fine, Fault}
+use Rattle.refusal.proofs.Verdicts.{then-fine, then-fault}
 use Rattle.cabling.specs.Verdicts.{Means, means-count}
 use Rattle.cabling.proofs.Tests.{decide-counted}
 use Rattle.cabling.proofs.Meaning.{fault-means}
@@ -22,7 +23,7 @@ use Rattle.format.proofs.Bodies.{same-bodies-iff}
 use Rattle.image.specs.Image.{bodiesOf, cablingIn}
 use Rattle.image.specs.Faults.{cablingFault, linksFault, imageFault}
 use Rattle.image.specs.Verdicts.{KindOne, count, second, cabling, ByTheRules, OfLinks, broken, ordered, OfEither, neither, links, faulty, differs, full}
-use Rattle.image.proofs.Faults.{then-fine, then-fault, front-count, front-shape, front-fine, tables-fine, tables-differ, links-ordered, links-broken, image-full, image-links, image-ordered}
+use Rattle.image.proofs.Faults.{front-count, front-shape, front-fine, tables-fine, tables-differ, links-ordered, links-broken, image-full, image-links, image-ordered}
 
 module _ (b : List ℕ) where
   -- ---- 2 to 7

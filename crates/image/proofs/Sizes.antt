@@ -5,12 +5,13 @@ use mathlib.Core.List.{List, [], _∷_}
 use Prim.Native.Nat.{ℕ, _+_, _*_}
 use native.Mathlib.Omega.{arith}
 use lib.ListN.{length, length-append, length-map}
+use Rattle.finite.specs.Lists.{joinedUp}
 use Rattle.rows.proofs.Meaning.{rows-length}
 use Rattle.cabling.specs.Cabling.{Cabling, links}
 use Rattle.fabric.specs.Fabric.{labelsFor, labelFor, rowsFor}
 use Rattle.fabric.proofs.Labels.{labels-length}
 use Rattle.format.specs.Contents.{linksKinds, fullKinds}
-use Rattle.format.specs.Bytes.{joinedUp, imageFrom}
+use Rattle.format.specs.Bytes.{imageFrom}
 use Rattle.format.proofs.Written.{entries-length}
 use Rattle.image.specs.Image.{bodiesOf, imageOf}
 

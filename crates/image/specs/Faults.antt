@@ -7,15 +7,11 @@ use Rattle.finite.specs.Truth.{same}
 use Rattle.refusal.specs.declared.Refusal.the-variants.{Contents, Count, Shape, Differs}
 use Rattle.refusal.specs.declared.Verdict.{Verdict}
 use Rattle.refusal.specs.declared.Verdict.the-variants.{Fine, Fault}
+use Rattle.refusal.specs.Verdicts.{andThen}
 use Rattle.cabling.specs.Faults.{isCounted, faultOf}
 use Rattle.format.specs.Contents.{inOrder, linksKinds, fullKinds, nodesIn, zeroIn}
 use Rattle.format.specs.Bytes.{sameBodies}
 use Rattle.image.specs.Image.{bodiesOf, cablingIn}
-
--- the second verdict where the first is fine
-unfoldable pub andThen : Verdict → Verdict → Verdict
-andThen Fine w = w
-andThen (Fault r) w = Fault r
 
 -- 2 and 3 of the first two bytes of kind 1, RULES 9.1: "N not 2 to 64"; "second byte of kind 1 not zero"
 unfoldable pub frontFault : List ℕ → Verdict

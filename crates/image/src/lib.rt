@@ -2,11 +2,12 @@
 ghost use mathlib.Core.Path.{_≡_};
 ghost use lib.ListN.{drop};
 ghost use Rattle.refusal.specs.declared.Verdict.{Verdict};
+ghost use Rattle.refusal.specs.Verdicts.{andThen};
 ghost use Rattle.cabling.specs.Cabling.{Good};
 ghost use Rattle.fabric.specs.Fabric.{fabricOf, bareFabric, madeBy};
 ghost use Rattle.format.specs.Bytes.{sameBodies};
 ghost use Rattle.image.specs.Image.{bodiesOf, cablingIn};
-ghost use Rattle.image.specs.Faults.{andThen, frontFault, cablingFault, tablesFault, imageFault};
+ghost use Rattle.image.specs.Faults.{frontFault, cablingFault, tablesFault, linksFault, imageFault};
 use fabric::Made;
 use format::FULL;
 use format::LINKS;
@@ -17,6 +18,9 @@ use refusal::Verdict;
 
 // RULES 6.2: "A full image has 28 + 2M + N + 2N² bytes", M and N at the most.
 pub const LONGEST: usize = 28 + 2 * MAX_LINKS + MAX_NODES + 2 * (MAX_NODES * MAX_NODES);
+
+// A links image has 10 + 2M.
+pub const LONGEST_LINKS: usize = 10 + 2 * MAX_LINKS;
 
 // 2 and 3, of the first two bytes of kind 1.
 fn front_fault(image: &[u8]) -> Verdict
@@ -115,6 +119,17 @@ pub fn open(image: &[u8]) -> Made
         return make_in(image);
     }
     refused(Refusal::Contents)
+}
+
+// 1 to 7, of a links image alone.
+pub fn links_verdict(image: &[u8]) -> Verdict
+    ensures { λ r. ⌜ r ≡ linksFault (now (image .entry)) ⌝ }
+{
+    if contents::in_order(image, LINKS) {
+        cabling_fault(image)
+    } else {
+        Verdict::Fault(Refusal::Contents)
+    }
 }
 
 // 1 to 8, of either image. A links image needs no fabric for that.

@@ -1,5 +1,5 @@
 -- What a program prints in a buffer that has room for its longest: the bytes, or the line of the refusal.
-use mathlib.Core.Path.{_≡_, sym, _∙_}
+use mathlib.Core.Path.{_≡_, sym, _∙_, subst}
 use mathlib.Core.List.{List}
 use Prim.Native.Nat.{ℕ, _≤_}
 use native.Mathlib.Nat.{le-trans}
@@ -10,11 +10,11 @@ use Rattle.refusal.specs.declared.Verdict.the-variants.{Fine, Fault}
 use Rattle.laid.specs.Laid.{Page}
 use Rattle.laid.specs.Lays.{Lays}
 use Rattle.results.specs.declared.Written.{Written}
-use Rattle.results.specs.declared.Written.the-variants.{Bytes}
+use Rattle.results.specs.declared.Written.the-variants.{Bytes, NotWritten}
 use Rattle.results.specs.Written.{Writes, roomFor}
 use Rattle.results.proofs.Placed.{writes-as, lays-writes, room-fine}
-use Rattle.results.proofs.Meaning.{not-refused}
-use Rattle.lines.specs.Lines.{refusalLine, longestRefusal, orRefused}
+use Rattle.results.proofs.Meaning.{not-refused, refused-in-room, refused-untouched}
+use Rattle.lines.specs.Lines.{refusalLine, longestRefusal, Told, orRefused}
 
 fine : (v : Verdict) (bytes : List ℕ) → v ≡ Fine → bytes ≡ orRefused v bytes
 unfolding orRefused
@@ -34,3 +34,12 @@ module _ {most : ℕ} {before : List ℕ} {v : Verdict} (bytes : List ℕ) (room
       → Writes (roomFor longestRefusal before) (refusalLine r) before answer after → Writes (roomFor most before) (orRefused v bytes) before answer after
   unfolding orRefused
   fault-prints e l w = writes-as (room-fine longestRefusal before (le-trans l room) ∙ sym (room-fine most before room)) (rw (e, orRefused)) w
+
+-- a call that writes, and what is told of it
+pub call-prints : {most : ℕ} {before after last : List ℕ} {v : Verdict} (bytes : List ℕ) (x : Written) {answer : Written} → most ≤ length before → longestRefusal ≤ most
+    → (v ≡ Fine → length bytes ≤ most) → Writes v bytes before x after → Told x after answer last → Writes (roomFor most before) (orRefused v bytes) before answer last
+call-prints bytes (Bytes m) room line fits w (e, same) = rw (e, same) (written-prints bytes room w)
+call-prints {most} {before} {after} {last} {v} bytes (NotWritten r) {answer} room line fits w p =
+    let same = refused-untouched bytes before after v r w in
+    fault-prints bytes room (refused-in-room bytes (length before) v r (λ e. le-trans (fits e) room) (sym (w .answers))) line
+    (subst (λ (l : List ℕ). Writes (roomFor longestRefusal l) (refusalLine r) l answer last) same p)

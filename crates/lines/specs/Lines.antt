@@ -1,4 +1,5 @@
 -- RULES 10.1: "Fields of a printed line are one space apart, and a line feed ends it."
+use mathlib.Core.Path.{_≡_}
 use mathlib.Core.List.{List, [], _∷_, _++_}
 use Prim.Native.Nat.{ℕ, _+_, _*_}
 use Rattle.laid.specs.Laid.{Page, behind}
@@ -6,6 +7,9 @@ use Rattle.refusal.specs.declared.Refusal.{Refusal}
 use Rattle.refusal.specs.declared.Verdict.{Verdict}
 use Rattle.refusal.specs.declared.Verdict.the-variants.{Fine, Fault}
 use Rattle.refusal.specs.Number.{numberOf, placeOf}
+use Rattle.results.specs.declared.Written.{Written}
+use Rattle.results.specs.declared.Written.the-variants.{Bytes, NotWritten}
+use Rattle.results.specs.Written.{Writes, roomFor}
 use Rattle.text.specs.Text.{decimalOf}
 
 -- a number as a further field: a space before it
@@ -43,6 +47,11 @@ refusalLine r = lineOf refusedWord (numberOf r ∷ placeOf r ∷ [])
 -- no longer than this: the word, two fields of a space and at most 21 digits, and the line feed
 abbrev pub longestRefusal : ℕ
 longestRefusal = 7 + 2 * (1 + 21) + 1
+
+-- what a call wrote stays, and of a refusal its line is written: what becomes of the buffer, and the answer
+abbrev pub Told : Written → List ℕ → Written → List ℕ → Type 0
+Told (Bytes m) before answer after = (answer ≡ Bytes m) × (after ≡ before)
+Told (NotWritten r) before answer after = Writes (roomFor longestRefusal before) (refusalLine r) before answer after
 
 -- RULES 10.1: "On a refusal it prints only `refused`, number, place.": these bytes, or the line of the refusal
 unfoldable pub orRefused : Verdict → List ℕ → List ℕ

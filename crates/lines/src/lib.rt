@@ -2,7 +2,8 @@
 ghost use mathlib.Core.Path.{_≡_};
 ghost use Rattle.laid.specs.Laid.{page};
 ghost use Rattle.results.specs.Written.{Writes, roomFor};
-ghost use Rattle.lines.specs.Lines.{withField, withFields, withLine, refusalLine, longestRefusal};
+ghost use Rattle.text.specs.Text.{decimalOf};
+ghost use Rattle.lines.specs.Lines.{withField, withFields, withLine, refusalLine, longestRefusal, Told};
 use refusal::Refusal;
 use results::Written;
 
@@ -48,6 +49,15 @@ pub fn line(buffer: &mut [u8], at: usize, first: &[u8], numbers: &[usize]) -> us
     laid::byte(buffer, end, 10)
 }
 
+// A line that begins with a number.
+pub fn number_line(buffer: &mut [u8], at: usize, first: usize, numbers: &[usize]) -> usize
+    ensures { λ r. ⌜ page (now (buffer .exit)) r ≡ withLine (page (now (buffer .entry)) at) (decimalOf first) (now (numbers .entry)) ⌝ }
+{
+    let begun = text::number(buffer, at, first);
+    let end = fields(buffer, begun, numbers);
+    laid::byte(buffer, end, 10)
+}
+
 // The line that a refusal prints, or 9 and nothing written where the longest such line finds no room.
 pub fn refusal_line(r: Refusal, buffer: &mut [u8]) -> Written
     ensures { λ answer. ⌜ Writes (roomFor longestRefusal (now (buffer .entry))) (refusalLine r) (now (buffer .entry)) answer (now (buffer .exit)) ⌝ }
@@ -59,6 +69,16 @@ pub fn refusal_line(r: Refusal, buffer: &mut [u8]) -> Written
     let place = refusal::place(r);
     let numbers = [number, place];
     Written::Bytes(line(buffer, 0, b"refused", &numbers))
+}
+
+// What a call has written, or in its place the line of its refusal.
+pub fn told(written: Written, out: &mut [u8]) -> Written
+    ensures { λ answer. ⌜ Told written (now (out .entry)) answer (now (out .exit)) ⌝ }
+{
+    match written {
+        Written::NotWritten(r) => refusal_line(r, out),
+        Written::Bytes(m) => Written::Bytes(m),
+    }
 }
 
 // Writes to standard output what stands at the front of `out`; nothing where nothing was written.

@@ -1,5 +1,5 @@
 -- A pick in place, from its parts; where no channel from the bound on is held it is a pick.
-use mathlib.Core.Path.{_≡_, _∙_, ap}
+use mathlib.Core.Path.{_≡_, ap}
 use Prim.Native.Nat.{ℕ}
 use lib.ListN.{length}
 use Rattle.seeds.specs.Seed.{nextSeed, lookAt}

@@ -5,11 +5,11 @@ use Prim.Native.Nat.{ℕ}
 use lib.ListN.{getD}
 use Rattle.refusal.specs.Number.{numberOf, placeOf}
 use Rattle.refusal.specs.declared.Refusal.{Refusal}
-use Rattle.refusal.specs.declared.Refusal.the-variants.{Contents, Count, Shape, Ends, Order, Crowded, Apart, Differs, Short, Unknown, Messages}
+use Rattle.refusal.specs.declared.Refusal.the-variants.{Contents, Count, Shape, Ends, Order, Crowded, Apart, Differs, Short, Unknown, Messages, Line}
 
 abbrev refusalAt : ℕ → ℕ → Refusal
 refusalAt n p =
-    getD (Contents ∷ Contents ∷ Count ∷ Shape ∷ Ends p ∷ Order p ∷ Crowded p ∷ Apart p ∷ Differs ∷ Short ∷ Unknown p ∷ Messages ∷ []) n Contents
+    getD (Contents ∷ Contents ∷ Count ∷ Shape ∷ Ends p ∷ Order p ∷ Crowded p ∷ Apart p ∷ Differs ∷ Short ∷ Unknown p ∷ Messages ∷ Line p ∷ []) n Contents
 
 back : (r : Refusal) → refusalAt (numberOf r) (placeOf r) ≡ r
 back Contents = refl
@@ -23,6 +23,7 @@ back Differs = refl
 back Short = refl
 back (Unknown p) = refl
 back Messages = refl
+back (Line i) = refl
 
 pub number-determined : (r : Refusal) (m n : ℕ) → m ≡ numberOf r → n ≡ numberOf r → m ≡ n
 number-determined r m n p q = p ∙ sym q

@@ -25,6 +25,8 @@ pub enum Refusal {
     Unknown(usize),
     // 11: the message list is odd or too long.
     Messages,
+    // 12: this line is not one of a sheet, the first such.
+    Line(usize),
 }
 
 // What a check finds: nothing, or the first fault.
@@ -48,6 +50,7 @@ pub fn number(r: Refusal) -> usize
         Refusal::Short => 9,
         Refusal::Unknown(_) => 10,
         Refusal::Messages => 11,
+        Refusal::Line(_) => 12,
     }
 }
 
@@ -66,5 +69,6 @@ pub fn place(r: Refusal) -> usize
         Refusal::Short => 0,
         Refusal::Unknown(p) => p,
         Refusal::Messages => 0,
+        Refusal::Line(i) => i,
     }
 }

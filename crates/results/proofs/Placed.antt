@@ -34,10 +34,17 @@ pub written-whole : {v : Verdict} {bytes before after : List ℕ} {r : Written} 
 unfolding writtenOf writtenInto
 written-whole e h w = (w .answers ∙ rw (e, le-leb _ _ h, writtenOf), w .leaves ∙ rw (e, le-leb _ _ h, writtenInto))
 
--- the same for a verdict and bytes that are known to be these
+-- the same for a verdict that is known to be this, and bytes that are known to be these where it is fine
+pub writes-where : (v : Verdict) {w : Verdict} {a b before after : List ℕ} {answer : Written} → v ≡ w → (v ≡ Fine → a ≡ b) → Writes v a before answer after
+    → Writes w b before answer after
+unfolding writtenOf writtenInto
+writes-where Fine {w} {a} {b} {before} {after} {answer} e q h =
+    subst (λ (x : Verdict). Writes x b before answer after) e (subst (λ (x : List ℕ). Writes Fine x before answer after) (q refl) h)
+writes-where (Fault r) {b = b} {before = before} {after = after} {answer = answer} e q h =
+    subst (λ (x : Verdict). Writes x b before answer after) e (record { answers = h .answers; leaves = h .leaves })
+
 pub writes-as : {v w : Verdict} {a b before after : List ℕ} {answer : Written} → v ≡ w → a ≡ b → Writes v a before answer after → Writes w b before answer after
-writes-as {v} {w} {a} {b} {before} {after} {answer} e q h =
-    subst (λ (x : Verdict). Writes x b before answer after) e (subst (λ (x : List ℕ). Writes v x before answer after) q h)
+writes-as {v} e q h = writes-where v e (λ f. q) h
 
 pub fault-writes : {v : Verdict} {r : Refusal} {bytes before : List ℕ} → v ≡ Fault r → Writes v bytes before (NotWritten r) before
 fault-writes e = writes-as (sym e) refl (refused _ _ _)

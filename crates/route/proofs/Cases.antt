@@ -11,6 +11,7 @@ use Rattle.nodes.specs.Limits.{maxNodes}
 use Rattle.refusal.specs.declared.Refusal.the-variants.{Short, Unknown}
 use Rattle.refusal.specs.declared.Verdict.{Verdict}
 use Rattle.refusal.specs.declared.Verdict.the-variants.{Fine, Fault}
+use Rattle.refusal.proofs.Verdicts.{then-fine, then-fault}
 use Rattle.fabric.specs.declared.Fabric.{Fabric}
 use Rattle.fabric.specs.declared.Made.{Made}
 use Rattle.fabric.specs.Fabric.{madeBy}
@@ -19,7 +20,6 @@ use Rattle.fabric.proofs.Parts.{fabric-nodes}
 use Rattle.format.specs.Contents.{nodesIn}
 use Rattle.image.specs.Image.{cablingIn}
 use Rattle.image.specs.Faults.{imageFault}
-use Rattle.image.proofs.Faults.{then-fine, then-fault}
 use Rattle.image.proofs.Images.{accepted-good}
 use Rattle.image.proofs.Meaning.{image-not-short}
 use Rattle.route.specs.Follow.{followed}

@@ -6,10 +6,11 @@ use Rattle.finite.specs.Truth.{_&_, below}
 use Rattle.refusal.specs.declared.Refusal.the-variants.{Unknown}
 use Rattle.refusal.specs.declared.Verdict.{Verdict}
 use Rattle.refusal.specs.declared.Verdict.the-variants.{Fine, Fault}
+use Rattle.refusal.specs.Verdicts.{andThen}
 use Rattle.fabric.specs.Fabric.{routeFor}
 use Rattle.format.specs.Contents.{nodesIn}
 use Rattle.image.specs.Image.{cablingIn}
-use Rattle.image.specs.Faults.{andThen, imageFault}
+use Rattle.image.specs.Faults.{imageFault}
 
 -- 10, RULES 9.1: "Route: a node ≥ N.", at place 0
 unfoldable pub endsFault : List ℕ → ℕ → ℕ → Verdict

@@ -1,6 +1,6 @@
 // Lent slices of bytes, read and stored into at every place: past the end a byte reads as 0, and a store changes nothing.
 ghost use mathlib.Core.Path.{_≡_};
-ghost use lib.ListN.{take, getD, set};
+ghost use lib.ListN.{take, drop, getD, set};
 ghost use Rattle.finite.specs.Lists.{alike};
 
 // The byte at place i, 0 past the end.
@@ -34,6 +34,16 @@ pub fn front(s: &[u8], n: usize) -> &[u8]
         return s;
     }
     &s[..n]
+}
+
+// The bytes behind the first n; none where there are no more.
+pub fn rest(s: &[u8], n: usize) -> &[u8]
+    ensures { λ r. ⌜ now r ≡ drop n (now (s .entry)) ⌝ }
+{
+    if s.len() <= n {
+        return &s[..0];
+    }
+    &s[n..]
 }
 
 // Are the two the same bytes?

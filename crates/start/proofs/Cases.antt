@@ -13,13 +13,13 @@ use Rattle.refusal.specs.declared.Refusal.{Refusal}
 use Rattle.refusal.specs.declared.Refusal.the-variants.{Unknown, Messages}
 use Rattle.refusal.specs.declared.Verdict.{Verdict}
 use Rattle.refusal.specs.declared.Verdict.the-variants.{Fine, Fault}
+use Rattle.refusal.proofs.Verdicts.{then-fine, then-fault}
 use Rattle.fabric.specs.declared.Fabric.{Fabric}
 use Rattle.fabric.specs.declared.Made.{Made}
 use Rattle.fabric.specs.Fabric.{fabricOf, madeBy}
 use Rattle.fabric.proofs.Making.{made-verdict, made-fabric}
 use Rattle.image.specs.Image.{cablingIn}
 use Rattle.image.specs.Faults.{imageFault}
-use Rattle.image.proofs.Faults.{then-fine, then-fault}
 use Rattle.messages.specs.declared.Record.{Record}
 use Rattle.messages.specs.Sizes.{maxList}
 use Rattle.messages.specs.Fresh.{sourceIn, targetIn}

@@ -12,6 +12,7 @@ use Rattle.finite.specs.Lists.{padded}
 use Rattle.finite.proofs.Lists.{padded-at}
 use Rattle.nodes.specs.Limits.{maxNodes}
 use Rattle.refusal.specs.declared.Verdict.the-variants.{Fine}
+use Rattle.refusal.proofs.Verdicts.{and-then-fine}
 use Rattle.cabling.specs.Cabling.{Cabling, Good, links}
 use Rattle.cabling.proofs.Joined.{good-network}
 use Rattle.lawful.specs.Turn.{Climbing, labelIn}
@@ -23,7 +24,6 @@ use Rattle.fabric.proofs.Rows.{good-row-at}
 use Rattle.format.specs.Contents.{nodesIn}
 use Rattle.image.specs.Image.{cablingIn}
 use Rattle.image.specs.Faults.{imageFault}
-use Rattle.image.proofs.Faults.{and-then-fine}
 use Rattle.image.proofs.Images.{accepted-good}
 use Rattle.messages.specs.declared.Record.{Record}
 use Rattle.messages.specs.Runs.{Tabled, Listed, Reached, fresh}

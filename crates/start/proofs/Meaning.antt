@@ -16,9 +16,9 @@ use Rattle.finite.proofs.Search.{least-before, least-fact, least-unique}
 use Rattle.refusal.specs.declared.Refusal.the-variants.{Unknown}
 use Rattle.refusal.specs.declared.Verdict.{Verdict}
 use Rattle.refusal.specs.declared.Verdict.the-variants.{Fine, Fault}
+use Rattle.refusal.proofs.Verdicts.{then-fine, then-fault}
 use Rattle.format.specs.Contents.{nodesIn}
 use Rattle.image.specs.Faults.{imageFault}
-use Rattle.image.proofs.Faults.{then-fine, then-fault}
 use Rattle.image.proofs.Meaning.{either-means}
 use Rattle.messages.specs.Sizes.{maxList}
 use Rattle.messages.specs.Fresh.{sourceIn, targetIn}

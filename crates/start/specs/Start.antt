@@ -9,11 +9,12 @@ use Rattle.finite.specs.Search.{least}
 use Rattle.refusal.specs.declared.Refusal.the-variants.{Unknown, Messages}
 use Rattle.refusal.specs.declared.Verdict.{Verdict}
 use Rattle.refusal.specs.declared.Verdict.the-variants.{Fine, Fault}
+use Rattle.refusal.specs.Verdicts.{andThen}
 use Rattle.fabric.specs.declared.Fabric.{Fabric}
 use Rattle.fabric.specs.Fabric.{fabricOf}
 use Rattle.format.specs.Contents.{nodesIn}
 use Rattle.image.specs.Image.{cablingIn}
-use Rattle.image.specs.Faults.{andThen, imageFault}
+use Rattle.image.specs.Faults.{imageFault}
 use Rattle.messages.specs.declared.Record.{Record}
 use Rattle.messages.specs.Sizes.{maxList}
 use Rattle.messages.specs.Fresh.{sourceIn, targetIn, begunOf}

@@ -1,5 +1,5 @@
 -- The table of the networks worked by hand as bytes: of each entry the number of nodes and the pairs; the labels, T, W and the first node; the tables of rows; the
--- images; the messages, the moves and the first look. The number of bytes stands before what may be of any length.
+-- images and the sheet; the messages, the moves and the first look. The number of bytes stands before what may be of any length.
 use mathlib.Core.List.{List, [], _∷_, _++_}
 use Prim.Native.Nat.{ℕ}
 use lib.ListN.{length}
@@ -11,7 +11,7 @@ withLength l = length l ∷ l
 abbrev pub bytesOf : Worked → List ℕ
 bytesOf e =
     e .cabling .nodes ∷ withLength (e .cabling .pairs) ++ e .labels ++ (e .turns ∷ e .prohibited ∷ e .first ∷ withLength (e .free)) ++ withLength (e .falling)
-    ++ withLength (e .links-image) ++ withLength (e .full-image) ++ withLength (e .messages) ++ (e .moves ∷ e .look ∷ [])
+    ++ withLength (e .links-image) ++ withLength (e .full-image) ++ withLength (e .sheet) ++ withLength (e .messages) ++ (e .moves ∷ e .look ∷ [])
 
 abbrev pub flat : List Worked → List ℕ
 flat [] = []

@@ -4,7 +4,7 @@ ghost use mathlib.Core.Path.{_≡_};
 ghost use Rattle.by_hand.specs.Networks.{worked};
 ghost use Rattle.worked.specs.Bytes.{flat};
 
-const WORKED: [u8; 472] = [
+const WORKED: [u8; 503] = [
     2,
     2,
     0,
@@ -78,6 +78,13 @@ const WORKED: [u8; 472] = [
     255,
     0,
     1,
+    6,
+    50,
+    10,
+    48,
+    32,
+    49,
+    10,
     0,
     0,
     0,
@@ -120,6 +127,7 @@ const WORKED: [u8; 472] = [
     0,
     0,
     0,
+    0,
     3,
     4,
     0,
@@ -152,6 +160,7 @@ const WORKED: [u8; 472] = [
     1,
     1,
     2,
+    0,
     0,
     0,
     0,
@@ -210,6 +219,25 @@ const WORKED: [u8; 472] = [
     3,
     0,
     0,
+    18,
+    52,
+    10,
+    48,
+    32,
+    49,
+    10,
+    48,
+    32,
+    51,
+    10,
+    49,
+    32,
+    50,
+    10,
+    50,
+    32,
+    51,
+    10,
     8,
     0,
     2,
@@ -275,6 +303,7 @@ const WORKED: [u8; 472] = [
     0,
     0,
     0,
+    0,
     4,
     12,
     0,
@@ -330,6 +359,7 @@ const WORKED: [u8; 472] = [
     1,
     2,
     3,
+    0,
     0,
     0,
     0,
@@ -477,10 +507,11 @@ const WORKED: [u8; 472] = [
     0,
     0,
     0,
+    0,
 ];
 
 // The whole table.
-fn table() -> [u8; 472]
+fn table() -> [u8; 503]
     ensures { λ r. ⌜ r ≡ flat worked ⌝ }
 {
     WORKED

@@ -7,6 +7,7 @@ use native.Mathlib.Numerals.{add-one}
 use native.Mathlib.Omega.{arith}
 use lib.ListN.{length, getD, take, length-append, length-map}
 use lib.Seq.{take-all, length-take-le}
+use Rattle.finite.specs.Lists.{joinedUp}
 use Rattle.finite.specs.Sum.{sumTo}
 use Rattle.finite.proofs.Sum.{sum-none, sum-more}
 use Rattle.image.proofs.Sizes.{rows-size, full-size}
@@ -17,7 +18,7 @@ use Rattle.fabric.proofs.Labels.{labels-length}
 use Rattle.fabric.proofs.Parts.{labels-part, free-part, falling-part}
 use Rattle.format.specs.Limits.{maxImage}
 use Rattle.format.specs.Contents.{linksKinds, fullKinds}
-use Rattle.format.specs.Bytes.{entryBytes, entriesOf, lengthsOf, joinedUp, imageFrom}
+use Rattle.format.specs.Bytes.{entryBytes, entriesOf, lengthsOf, imageFrom}
 use Rattle.format.proofs.Written.{entries-length, entries-more}
 use Rattle.laid.specs.Laid.{Page, page, behind}
 use Rattle.laid.specs.Lays.{Lays}

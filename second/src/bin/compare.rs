@@ -52,7 +52,7 @@ impl Options {
             ours: words(&std::env::var("OURS").unwrap_or_default()),
             set: Set::Small,
             seed: 1,
-            cases: 1_000,
+            cases: 1_050,
             only: None,
             jobs: thread::available_parallelism().map_or(1, usize::from),
             limit: Duration::from_secs(60),

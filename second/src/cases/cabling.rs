@@ -45,6 +45,13 @@ impl Cabling {
         lay_out(&[(1, &self.links_body())])
     }
 
+    /// The sheet, put together without any check.
+    pub fn sheet(&self) -> Vec<u8> {
+        let line = |(a, b): &(usize, usize)| format!("{a} {b}\n");
+        let links: String = self.pairs.iter().map(line).collect();
+        format!("{}\n{links}", self.nodes).into_bytes()
+    }
+
     /// The full image; the cabling must be an accepted one.
     pub fn full_image(&self) -> Vec<u8> {
         let mut room = vec![0; 65_535];

@@ -14,6 +14,7 @@ pub fn cases(set: Set) -> Vec<Case> {
         cases.extend(made_longer(&image));
     }
     cases.extend(drain_cut_short());
+    cases.extend(through_sheet());
     for cabling in [path(2), ring(4)] {
         cases.extend(on_both("contents", contents(&cabling)));
     }
@@ -39,6 +40,19 @@ fn on_both(family: &'static str, images: Vec<Vec<u8>>) -> Vec<Case> {
             cases.push(Case::new(family, "build", image.clone()));
         }
         cases.push(Case::new(family, "show", image));
+    }
+    cases
+}
+
+/// The ring's links image, damaged, through sheet.
+fn through_sheet() -> Vec<Case> {
+    let image = ring(4).links_image();
+    let mut cases = changed_bytes(&image, Set::Small);
+    cases.extend(cut_short(&image));
+    cases.extend(made_longer(&image));
+    cases.retain(|case| case.program == "show");
+    for case in &mut cases {
+        case.program = "sheet";
     }
     cases
 }

@@ -6,6 +6,7 @@ use super::growing::*;
 use super::pack::*;
 use super::random::Random;
 use super::restarts::passes;
+use super::sheets::edit;
 use super::turning::random_turning;
 use super::{Case, Set};
 use crate::calls::route;
@@ -13,7 +14,7 @@ use crate::calls::route;
 type Drawer = fn(&mut Random, Set) -> (&'static str, Vec<u8>);
 
 /// The drawn families; cases go round them by index.
-pub const DRAWN: [(&str, Drawer); 22] = [
+pub const DRAWN: [(&str, Drawer); 25] = [
     ("trees", |r, set| on_network(r, set, tree)),
     ("sparse", |r, set| on_network(r, set, sparse)),
     ("mixed", |r, set| on_network(r, set, mixed)),
@@ -24,6 +25,7 @@ pub const DRAWN: [(&str, Drawer); 22] = [
     ("meshes", |r, set| on_network(r, set, mesh)),
     ("turning", turning),
     ("damaged", damaged),
+    ("sheets", sheets),
     ("entry", entry),
     ("walk", walk),
     ("row", row),
@@ -32,6 +34,8 @@ pub const DRAWN: [(&str, Drawer); 22] = [
     ("read", read),
     ("write", write),
     ("build", build),
+    ("cable", cable),
+    ("sheet", sheet),
     ("steps", steps),
     ("rounds", rounds),
     ("trace", trace),
@@ -216,12 +220,13 @@ fn damaged(random: &mut Random, set: Set) -> (&'static str, Vec<u8>) {
     for _ in 0..random.between(1, 3) {
         damage(random, &mut image);
     }
-    match random.below(7) {
+    match random.below(8) {
         0 => ("build", image),
         1 => ("drain", drain_input(&image, 9, &[0, 1, 1, 0])),
         2 => ("calls", read_call(&image, 1_024)),
         3 => ("calls", route_call(&image, 0, 1, 64)),
         4 => ("calls", build_call(&image, 9_400)),
+        5 => ("sheet", image),
         _ => ("show", image),
     }
 }
@@ -249,6 +254,27 @@ fn damage(random: &mut Random, image: &mut Vec<u8>) {
         8 => image[place] = image[place].wrapping_sub(1),
         _ => image[place] = random.pick(&[0, 1, 2, 4, 16, 17, 63, 64, 65, 255]),
     }
+}
+
+/// A network of any of the makers, to sheet as an image or to cable as a
+/// sheet; two sheets of three have faults.
+fn sheets(random: &mut Random, set: Set) -> (&'static str, Vec<u8>) {
+    let makers = [tree, sparse, mixed, dense, blocks, joints, hall_like, mesh];
+    let cabling = random.pick(&makers)(random, set);
+    match random.below(4) {
+        0 => ("sheet", cabling.links_image()),
+        1 => ("cable", cabling.sheet()),
+        _ => ("cable", edited(random, &cabling)),
+    }
+}
+
+/// A sheet with one to three faults.
+fn edited(random: &mut Random, cabling: &Cabling) -> Vec<u8> {
+    let mut sheet = cabling.sheet();
+    for _ in 0..random.between(1, 3) {
+        edit(random, &mut sheet);
+    }
+    sheet
 }
 
 /// An image as it should be, or damaged, or any bytes.
@@ -432,6 +458,29 @@ fn build(random: &mut Random, set: Set) -> (&'static str, Vec<u8>) {
     ("calls", build_call(&image, room))
 }
 
+fn cable(random: &mut Random, set: Set) -> (&'static str, Vec<u8>) {
+    let cabling = any_network(random, set);
+    let sheet = match random.below(2) {
+        0 => cabling.sheet(),
+        _ => edited(random, &cabling),
+    };
+    let room = some_room(random, links_length(&cabling));
+    ("calls", cable_call(&sheet, room))
+}
+
+fn sheet(random: &mut Random, set: Set) -> (&'static str, Vec<u8>) {
+    let cabling = any_network(random, set);
+    let mut image = match random.below(6) {
+        0 => cabling.full_image(),
+        _ => cabling.links_image(),
+    };
+    if random.one_in(3) {
+        damage(random, &mut image);
+    }
+    let room = some_room(random, cabling.sheet().len());
+    ("calls", sheet_call(&image, room))
+}
+
 /// A start, right or wrong, and moves of any messages in any order.
 fn steps(random: &mut Random, set: Set) -> (&'static str, Vec<u8>) {
     let cabling = any_network(random, set);
@@ -504,14 +553,14 @@ fn trace(random: &mut Random, set: Set) -> (&'static str, Vec<u8>) {
 /// Calls cut short, with bytes left over, or with another selector.
 fn bad_call(random: &mut Random, set: Set) -> (&'static str, Vec<u8>) {
     let drawers = [
-        entry, walk, row, hop, routes, read, write, build, steps, rounds,
+        entry, walk, row, hop, routes, read, write, build, cable, sheet, steps, rounds,
     ];
     let (_, mut input) = random.pick(&drawers)(random, set);
     match random.below(5) {
         0 => input.truncate(random.below(input.len() + 1)),
         1 => input.push(random.byte()),
         2 => input[0] = random.byte(),
-        3 => input[0] = random.between(0, 12) as u8,
+        3 => input[0] = random.between(0, 14) as u8,
         _ => damage(random, &mut input),
     }
     ("calls", input)

@@ -24,6 +24,9 @@ pub fn cases() -> Vec<Case> {
     cases.extend(buffers());
     for image in images_with_two_faults() {
         cases.extend(any_image("order", &image));
+        if image[1] == 1 {
+            cases.push(Case::new("order", "sheet", image));
+        }
     }
     cases.extend(calls_with_two_faults());
     cases.extend(message_lists());
@@ -50,9 +53,11 @@ fn any_image(family: &'static str, image: &[u8]) -> Vec<Case> {
     cases
 }
 
-/// As an image, and through write, links and full.
+/// As an image, to and from its sheet, and through write, links and full.
 fn any_cabling(family: &'static str, cabling: &Cabling) -> Vec<Case> {
     let mut cases = any_image(family, &cabling.links_image());
+    cases.push(Case::new(family, "sheet", cabling.links_image()));
+    cases.push(Case::new(family, "cable", cabling.sheet()));
     for full in [0, 1] {
         let input = write_call(cabling.nodes, full, &cabling.pair_bytes(), 9_400);
         cases.push(Case::new(family, "calls", input));
@@ -153,6 +158,7 @@ fn calls_on(image: &[u8]) -> Vec<Case> {
         route_call(image, 0, 1, 4),
         read_call(image, 16),
         build_call(image, 16),
+        sheet_call(image, 16),
         steps_call(image, &[0, 1, 1, 0], &[0, 1, 0]),
     ];
     let case = |input| Case::new("limits", "calls", input);
@@ -214,7 +220,8 @@ fn long_inputs() -> Vec<Case> {
     let drain = |total: usize| drain_input(&image(total), 1, &[]);
     vec![
         Case::new("limits", "build", one_more.clone()),
-        Case::new("limits", "show", one_more),
+        Case::new("limits", "show", one_more.clone()),
+        Case::new("limits", "sheet", one_more),
         Case::new("limits", "drain", drain(65_529)),
         Case::new("limits", "drain", drain(65_530)),
         Case::new("limits", "drain", drain(65_531)),
@@ -272,6 +279,9 @@ fn buffers() -> Vec<Case> {
         cases.extend(read.map(|room| read_call(&links, room)));
         cases.extend(read.map(|room| read_call(&full, room)));
         cases.extend(around(full.len()).map(|room| build_call(&links, room)));
+        let sheet = cabling.sheet();
+        cases.extend(around(links.len()).map(|room| cable_call(&sheet, room)));
+        cases.extend(around(sheet.len()).map(|room| sheet_call(&links, room)));
         let write = |wish, room| write_call(cabling.nodes, wish, &pairs, room);
         cases.extend(around(links.len()).map(|room| write(0, room)));
         cases.extend(around(full.len()).map(|room| write(1, room)));
@@ -351,6 +361,7 @@ fn calls_with_two_faults() -> Vec<Case> {
         }
         inputs.push(read_call(image, 0));
         inputs.push(build_call(image, 0));
+        inputs.push(sheet_call(image, 0));
     }
     let pairs: [&[u8]; 6] = [&[], &[0], &[1, 0], &[0, 1], &[0, 1, 0, 1], &[0, 9, 0]];
     for pairs in pairs {

@@ -10,6 +10,7 @@ pub mod pack;
 pub mod random;
 pub mod restarts;
 pub mod shapes;
+pub mod sheets;
 pub mod turning;
 pub mod worked;
 
@@ -45,6 +46,7 @@ pub fn fixed(set: Set) -> Vec<Case> {
     cases.extend(shapes::cases(set));
     cases.extend(damage::cases(set));
     cases.extend(limits::cases());
+    cases.extend(sheets::cases(set));
     cases.extend(restarts::cases());
     cases
 }

@@ -85,6 +85,14 @@ pub fn build_call(image: &[u8], room: usize) -> Vec<u8> {
     Pack::call(7).bytes(image).number(room).done()
 }
 
+pub fn cable_call(sheet: &[u8], room: usize) -> Vec<u8> {
+    Pack::call(10).bytes(sheet).number(room).done()
+}
+
+pub fn sheet_call(image: &[u8], room: usize) -> Vec<u8> {
+    Pack::call(11).bytes(image).number(room).done()
+}
+
 /// A start and the messages that are to move after it.
 #[derive(Clone, Debug)]
 pub struct Round {

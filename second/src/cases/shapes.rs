@@ -12,7 +12,7 @@ pub fn cases(set: Set) -> Vec<Case> {
     };
     let mut random = Random::new(1);
     let mut cases = Vec::new();
-    for cabling in &shapes {
+    for (i, cabling) in shapes.iter().enumerate() {
         let count = (2 * cabling.nodes).min(256);
         let messages = random_list(cabling.nodes, count, &mut random);
         let seed = random.draw() as u32;
@@ -21,6 +21,10 @@ pub fn cases(set: Set) -> Vec<Case> {
         let links = reversed.links_image();
         cases.push(Case::new("shapes", "build", links));
         cases.push(Case::new("shapes", "show", reversed.full_image()));
+        cases.push(match i % 2 {
+            0 => Case::new("shapes", "cable", cabling.sheet()),
+            _ => Case::new("shapes", "sheet", cabling.links_image()),
+        });
     }
     cases
 }

@@ -29,6 +29,9 @@ pub fn cases() -> Vec<Case> {
         let last = cabling.nodes - 1;
         let messages = list(&[(0, last), (last, 0), (1, 0), (0, 1), (last, 1), (1, 1)]);
         cases.extend(network_cases("worked", &cabling, &messages, 0));
+        cases.push(Case::new("worked", "cable", cabling.sheet()));
+        cases.push(Case::new("worked", "sheet", cabling.links_image()));
+        cases.push(Case::new("worked", "sheet", cabling.full_image()));
         cases.extend(writes(&cabling));
         cases.extend(routes(&cabling));
         cases.extend(rows(&cabling));
@@ -106,17 +109,37 @@ pub fn listed() -> Vec<(&'static str, Vec<u8>)> {
     ]
 }
 
+/// The sheets listed there, each with a few words.
+pub fn listed_sheets() -> Vec<(&'static str, Vec<u8>)> {
+    let sheets = [
+        ("an empty sheet", ""),
+        ("links 0-1 and 2-3 on a sheet", "4\n0 1\n2 3\n"),
+        ("a pair twice on a sheet", "4\n0 1\n0 1\n"),
+        ("a sheet's last line not closed", "2\n0 1"),
+        ("two spaces on a sheet", "2\n0  1\n"),
+        ("an empty line alone", "\n"),
+        ("a sheet of one node", "1\n"),
+        ("the pair (1, 0) on a sheet", "2\n1 0\n"),
+    ];
+    sheets.map(|(words, text)| (words, text.into())).to_vec()
+}
+
 fn listed_refusals() -> Vec<Case> {
     let programs = |(_, image): &(&str, Vec<u8>)| {
         let drain = drain_input(image, 7, &list(&[(0, 1), (1, 0)]));
         [
             Case::new("worked", "build", image.clone()),
             Case::new("worked", "show", image.clone()),
+            Case::new("worked", "sheet", image.clone()),
             Case::new("worked", "drain", drain),
             Case::new("worked", "calls", read_call(image, 1_100)),
         ]
     };
     let mut cases: Vec<Case> = listed().iter().flat_map(programs).collect();
+    for (_, sheet) in listed_sheets() {
+        cases.push(Case::new("worked", "cable", sheet));
+    }
+    cases.push(Case::new("worked", "cable", vec![]));
     cases.push(Case::new("worked", "drain", vec![]));
     cases.push(Case::new("worked", "calls", vec![]));
     cases

@@ -2,10 +2,10 @@
 use mathlib.Core.Path.{_∙_, sym, ap₂}
 use mathlib.Core.List.{List}
 use Prim.Native.Nat.{ℕ}
+use Rattle.refusal.proofs.Verdicts.{then-fine, then-fault}
 use borrow.Author.Needs.{needs}
 use Rattle.cabling.specs.Cabling.{cabled}
 use Rattle.cabling.specs.Faults.{faultOf}
-use Rattle.image.proofs.Faults.{then-fine, then-fault}
 use Rattle.image.proofs.cabling_fault.Statement.{statement}
 use Rattle.image.proofs.cabling_fault.Tie as tie
 

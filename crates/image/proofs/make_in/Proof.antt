@@ -2,11 +2,11 @@
 use mathlib.Core.Path.{refl, _∙_, sym, ap₂}
 use mathlib.Core.List.{List}
 use Prim.Native.Nat.{ℕ}
+use Rattle.refusal.proofs.Verdicts.{then-fine, then-fault}
 use borrow.Author.Needs.{needs}
 use Rattle.cabling.specs.Cabling.{cabled}
 use Rattle.fabric.specs.Fabric.{madeOf}
 use Rattle.fabric.proofs.Making.{made-fault, made-as}
-use Rattle.image.proofs.Faults.{then-fine, then-fault}
 use Rattle.image.proofs.make_in.Statement.{statement}
 use Rattle.image.proofs.make_in.Tie as tie
 

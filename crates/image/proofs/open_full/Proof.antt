@@ -4,9 +4,10 @@ use borrow.Author.Needs.{needs}
 use borrow.Author.Tests.{not-true, not-false}
 use denote.Ref.{now}
 use Rattle.refusal.specs.declared.Verdict.the-variants.{Fine}
+use Rattle.refusal.proofs.Verdicts.{then-fine, then-fault}
 use Rattle.fabric.proofs.Making.{made-fault, made-as, made-verdict, made-fabric}
 use Rattle.image.specs.Faults.{cablingFault}
-use Rattle.image.proofs.Faults.{then-fine, then-fault, cabling-good, tables-fine, tables-differ}
+use Rattle.image.proofs.Faults.{cabling-good, tables-fine, tables-differ}
 use Rattle.image.proofs.open_full.Statement.{statement}
 use Rattle.image.proofs.open_full.Tie as tie
 

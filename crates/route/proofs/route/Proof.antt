@@ -4,9 +4,9 @@ use mathlib.Core.Logic.{inl, inr}
 use native.Mathlib.Omega.{arith}
 use lib.ListN.{length-take}
 use denote.Ref.{now}
+use Rattle.refusal.proofs.Verdicts.{then-fault}
 use Rattle.results.proofs.Placed.{fault-writes, fine-writes}
 use Rattle.fabric.proofs.Making.{made-verdict}
-use Rattle.image.proofs.Faults.{then-fault}
 use Rattle.laid.proofs.Pieces.{lays-front}
 use Rattle.route.proofs.Cases.{ends-refused, not-refused, Opened, opened}
 use borrow.Author.Needs.{needs}

@@ -1,5 +1,4 @@
 -- `rows::touching` meets its contract. The invariant: the nodes passed have given their words.
-use native.Mathlib.Omega.{arith}
 use Rattle.nodes.specs.Members.{members}
 use Rattle.nodes.proofs.Passing.{Pass, pass}
 use Rattle.nodes.proofs.Members.{members-lt, none-left}

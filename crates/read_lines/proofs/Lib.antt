@@ -1,0 +1,6 @@
+pub mod Lines
+pub mod Numbers
+pub mod Sizes
+pub mod Front
+pub mod Printed
+pub mod Determined

@@ -1,0 +1,5 @@
+pub mod Sheet
+pub mod Faults
+pub mod Verdicts
+pub mod Promises
+pub mod Held
