@@ -215,6 +215,7 @@ fn networks_marked_run() {
         "degree 17: refused 6 0",
         "links 0-1 and 2-3: refused 7 2",
         "no messages: drained 0 0",
+        "an empty sheet: refused 12 0",
         "links 0-1 and 2-3 on a sheet: refused 7 2",
         "a pair twice on a sheet: refused 5 1",
         "a sheet's last line not closed: refused 12 1",

@@ -29,7 +29,7 @@ unfoldable pub numbersIn : ℕ → List ℕ → List ℕ
 numbersIn zero s = []
 numbersIn (suc k) s = numberIn s ∷ numbersIn k (drop (suc (length (decimalOf (numberIn s)))) s)
 
--- so a text is such a line exactly when it is what these numbers print
+-- so a text is such a line exactly when these numbers are bytes and print it
 unfoldable pub isLine : ℕ → List ℕ → Bool
 isLine k l = areBytes (numbersIn k l) & alike l (numbersLine (numbersIn k l))
 

@@ -8,7 +8,7 @@ use Rattle.lines.specs.Lines.{orRefused}
 use Rattle.sheets.specs.Sheet.{sheetOf, cablingOn}
 use Rattle.sheets.specs.Faults.{sheetFault}
 
--- no longer than the longest links image, and than the longest sheet
+-- what Cable writes, at most longestLinks bytes, and Sheet, at most longestSheet
 unfoldable pub cableOutput : List ℕ → List ℕ
 cableOutput s = orRefused (sheetFault s) (imageOf linksKinds (cablingOn s))
 

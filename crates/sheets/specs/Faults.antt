@@ -1,4 +1,4 @@
--- The verdict on a sheet: 12 at the first line that no sheet has; then 2 to 7, of the cabling that it tells.
+-- The verdict on a sheet: 12 at the first line that is not in the form of one; then 2 to 7, of the cabling that it tells.
 use mathlib.Core.Bool.{true, false}
 use mathlib.Core.List.{List, [], _∷_}
 use Prim.Native.Nat.{ℕ, suc}
@@ -16,7 +16,7 @@ unfoldable pub linkLinesFault : ℕ → List (List ℕ) → Verdict
 linkLinesFault i [] = Fine
 linkLinesFault i (l ∷ ls) = elim (isLine 2 l) [ true ↦ linkLinesFault (suc i) ls | false ↦ Fault (Line i) ]
 
--- of all lines, RULES 9.1: "of an empty sheet line 0 is missing"
+-- of all lines, RULES 9.1: "Of an empty sheet line 0 is missing"
 unfoldable pub linesFault : List (List ℕ) → Verdict
 linesFault [] = Fault (Line 0)
 linesFault (l ∷ ls) = elim (isLine 1 l) [ true ↦ linkLinesFault 1 ls | false ↦ Fault (Line 0) ]

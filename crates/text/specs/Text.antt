@@ -26,6 +26,6 @@ unfoldable pub readOn : ℕ → List ℕ → ℕ
 readOn n [] = n
 readOn n (x ∷ s) = elim (below n 100 & isDigit x) [ true ↦ readOn (10 * n + (x - 48)) s | false ↦ n ]
 
--- of three digits at the most, zeros in front not counted: whether it stands there as RULES 10.1 has it is asked by printing it
+-- of three digits at the most, zeros in front not counted: whether it stands there as RULES 6.5 has it is asked by printing it
 abbrev pub numberIn : List ℕ → ℕ
 numberIn s = readOn 0 s

@@ -139,7 +139,6 @@ fn listed_refusals() -> Vec<Case> {
     for (_, sheet) in listed_sheets() {
         cases.push(Case::new("worked", "cable", sheet));
     }
-    cases.push(Case::new("worked", "cable", vec![]));
     cases.push(Case::new("worked", "drain", vec![]));
     cases.push(Case::new("worked", "calls", vec![]));
     cases
