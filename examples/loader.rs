@@ -26,6 +26,13 @@ fn load(image: &[u8]) -> Result<Board<'_>, &'static str> {
     Ok(Board { nodes, labels, tables: [free, falling] })
 }
 
+/// The next node from v for a message to t, and the message's class there; none where no node is stored.
+fn hop(board: &Board, v: usize, class: usize, t: usize) -> Option<(usize, usize)> {
+    let u = usize::from(board.tables[class][v * board.nodes + t]);
+    let label = *board.labels.get(u)?; // 255 has none
+    Some((u, if v != t && label < board.labels[v] { 1 } else { class }))
+}
+
 /// The number of hops from one node to another, if the message arrives in fewer than N.
 fn hops(board: &Board, source: usize, destination: usize) -> Option<usize> {
     let (mut at, mut class) = (source, 0);
@@ -33,11 +40,7 @@ fn hops(board: &Board, source: usize, destination: usize) -> Option<usize> {
         if at == destination {
             return Some(hops);
         }
-        let next = usize::from(board.tables[class][at * board.nodes + destination]);
-        if *board.labels.get(next)? < board.labels[at] {
-            class = 1;
-        }
-        at = next;
+        (at, class) = hop(board, at, class, destination)?;
     }
     None
 }

@@ -1,12 +1,13 @@
 //! The program worked: what is found of each network worked by hand, and of
 //! the images and sheets listed beside them, as text.
 
-use crate::calls::accept;
+use crate::calls::{accept, Fabric};
 use crate::cases::cabling::{path, ring, Cabling};
 use crate::cases::pack::drain_input;
-use crate::cases::worked::{listed, listed_sheets, networks, ring_messages};
+use crate::cases::worked::{hops, listed, listed_sheets, networks, ring_messages};
 use crate::programs::{drain, drained, listed as numbers, sheet, show};
 use crate::refusal::Refusal;
+use crate::rows::{hop, Lent};
 use crate::sheets::cable;
 
 /// The largest network whose falling rows are worked by hand.
@@ -45,11 +46,30 @@ fn found(cabling: &Cabling) -> String {
     if cabling.nodes <= ROWS_BY_HAND {
         let (fabric, _) = accept(&links).expect("an accepted network");
         text += &format!("falling{}\n", numbers(&fabric.tables.falling));
+        text += &hop_lines(&fabric, &hops(cabling));
     }
     if [path(2), ring(4)].contains(cabling) {
         text += &format!("sheet{}\n", numbers(&sheet(&links)));
     }
     text
+}
+
+/// A line for each hop: node, class and destination, and what hop answers.
+fn hop_lines(fabric: &Fabric, asked: &[[usize; 3]]) -> String {
+    let lent = Lent {
+        labels: &fabric.label_bytes(),
+        free: &fabric.tables.free,
+        falling: &fabric.tables.falling,
+        nodes: fabric.labels.len(),
+    };
+    let line = |&[node, class, destination]: &[usize; 3]| {
+        let found = hop(&lent, node, class, destination).expect("a node of the network");
+        let found = found.map_or("none".into(), |next| {
+            format!("{} {}", next.node, next.class)
+        });
+        format!("hop {node} {class} {destination} {found}\n")
+    };
+    asked.iter().map(line).collect()
 }
 
 fn verdict<T>(answer: Result<T, Refusal>) -> String {

@@ -13,3 +13,4 @@ pub mod protocol;
 pub mod refusal;
 pub mod rows;
 pub mod sheets;
+pub mod unstarted;

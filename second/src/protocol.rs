@@ -1,12 +1,13 @@
 //! The program `calls`: one call out of a binary input, its answer as text.
 
 use crate::calls::{build, read, route, write};
-use crate::drain::{Answer, Record};
+use crate::drain::{Answer, Channel, Record};
 use crate::image::{entry, Entry, Walker};
 use crate::programs::{drained, listed, Writing};
 use crate::refusal::{refusal, Refusal};
-use crate::rows::{hop, row};
+use crate::rows::{hop, row, Lent, Next};
 use crate::sheets::{cable, sheet};
+use crate::unstarted::Unstarted;
 
 /// The most that is read.
 pub const MOST_CALL: usize = 131_072;
@@ -34,6 +35,7 @@ fn call(input: &[u8]) -> Option<String> {
         9 => trace_call(arguments),
         10 => writing_call(arguments, "cabled", cable),
         11 => writing_call(arguments, "sheet", sheet),
+        12 => moves_call(arguments),
         _ => None,
     }
 }
@@ -71,6 +73,12 @@ impl<'a> Arguments<'a> {
     fn buffer(&mut self) -> Option<Vec<u8>> {
         let length = self.number()?;
         Some((0..length).map(|i| (i * 7 + 13) as u8).collect())
+    }
+
+    /// A number k, and then k numbers: the messages that are to move.
+    fn named(&mut self) -> Option<Vec<usize>> {
+        let count = self.number()?;
+        (0..count).map(|_| self.number()).collect()
     }
 
     /// Nothing may be left over.
@@ -126,13 +134,24 @@ fn row_call(mut arguments: Arguments) -> Option<String> {
 }
 
 fn hop_call(mut arguments: Arguments) -> Option<String> {
-    let (free, falling) = (arguments.bytes()?, arguments.bytes()?);
-    let nodes = arguments.number()?;
+    let lent = Lent {
+        labels: arguments.bytes()?,
+        free: arguments.bytes()?,
+        falling: arguments.bytes()?,
+        nodes: arguments.number()?,
+    };
     let (node, class) = (arguments.number()?, arguments.number()?);
     let destination = arguments.number()?;
     arguments.end()?;
-    let answer = hop(free, falling, nodes, node, class, destination);
-    Some(answer_line(answer.map(|byte| format!("hop {byte}"))))
+    let answer = hop(&lent, node, class, destination);
+    Some(answer_line(answer.map(hop_text)))
+}
+
+fn hop_text(next: Option<Next>) -> String {
+    match next {
+        Some(Next { node, class }) => format!("hop {node} {class}"),
+        None => "none".into(),
+    }
 }
 
 fn route_call(mut arguments: Arguments) -> Option<String> {
@@ -183,13 +202,10 @@ struct Round<'a> {
 }
 
 fn round<'a>(arguments: &mut Arguments<'a>) -> Option<Round<'a>> {
-    let (image, list) = (arguments.bytes()?, arguments.bytes()?);
-    let count = arguments.number()?;
-    let named: Option<Vec<usize>> = (0..count).map(|_| arguments.number()).collect();
     Some(Round {
-        image,
-        list,
-        named: named?,
+        image: arguments.bytes()?,
+        list: arguments.bytes()?,
+        named: arguments.named()?,
     })
 }
 
@@ -213,19 +229,45 @@ fn steps_call(mut arguments: Arguments) -> Option<String> {
     Some(text)
 }
 
+fn record_lines(record: &Record) -> String {
+    let counts = (record.messages(), record.moves());
+    lines_of(counts, record.delivered(), record.held())
+}
+
 /// How many messages and moves, which messages are delivered, and which
 /// channels are held, by whom.
-fn record_lines(record: &Record) -> String {
-    let delivered = record.delivered().map(|message| format!(" {message}"));
-    let held = record.held();
-    let held = held.map(|((from, to), message)| format!(" {from} {to} {message}"));
-    format!(
-        "record {} {}\ndelivered{}\nheld{}\n",
-        record.messages(),
-        record.moves(),
-        delivered.collect::<String>(),
-        held.collect::<String>()
-    )
+fn lines_of(
+    (messages, moves): (usize, usize),
+    delivered: impl Iterator<Item = usize>,
+    held: impl Iterator<Item = (Channel, usize)>,
+) -> String {
+    let delivered: String = delivered.map(|message| format!(" {message}")).collect();
+    let channel = |((from, to), message)| format!(" {from} {to} {message}");
+    let held: String = held.map(channel).collect();
+    format!("record {messages} {moves}\ndelivered{delivered}\nheld{held}\n")
+}
+
+/// Moves in a record that no start made, and its lines before and after.
+fn moves_call(mut arguments: Arguments) -> Option<String> {
+    let given = Lent {
+        nodes: arguments.number()?,
+        labels: arguments.bytes()?,
+        free: arguments.bytes()?,
+        falling: arguments.bytes()?,
+    };
+    let (list, classes) = (arguments.bytes()?, arguments.bytes()?);
+    let named = arguments.named()?;
+    arguments.end()?;
+    let lines = |record: &Unstarted| {
+        let counts = (record.messages(), record.moves());
+        lines_of(counts, record.delivered(), record.held())
+    };
+    let mut record = Unstarted::new(&given, list, classes);
+    let mut text = lines(&record);
+    for message in named {
+        text += &answer_line(record.step(message).map(step_text));
+    }
+    Some(text + &lines(&record))
 }
 
 fn step_text(answer: Answer) -> String {

@@ -1,5 +1,5 @@
 //! Next-hop tables by searches forward over (node, class), the row and hop
-//! calls over lent tables, and the route that follows the tables.
+//! calls over lent tables and labels, and the route that follows the tables.
 
 use crate::network::{Network, LEAST_NODES, MOST_NODES};
 use crate::refusal::{refusal, Refusal};
@@ -112,29 +112,55 @@ pub fn row<'a>(
     }
 }
 
-/// The byte of a row at a destination, as stored.
+/// Labels and both tables of N nodes, lent to hop; from an image or not.
+#[derive(Clone, Copy, Debug)]
+pub struct Lent<'a> {
+    pub labels: &'a [u8],
+    pub free: &'a [u8],
+    pub falling: &'a [u8],
+    pub nodes: usize,
+}
+
+/// Where a message goes: the next node, and the class to use there.
+#[derive(Clone, Copy, Debug, PartialEq, Eq)]
+pub struct Next {
+    pub node: usize,
+    pub class: usize,
+}
+
+/// The next node and the class to use there, or none where 255 is stored.
 pub fn hop(
-    free: &[u8],
-    falling: &[u8],
-    nodes: usize,
+    lent: &Lent,
     node: usize,
     class: usize,
     destination: usize,
-) -> Result<u8, Refusal> {
-    let row = row(free, falling, nodes, node, class);
-    row.get(destination).copied().ok_or(refusal(10, 0))
+) -> Result<Option<Next>, Refusal> {
+    let row = row(lent.free, lent.falling, lent.nodes, node, class);
+    if lent.labels.len() != lent.nodes || destination >= row.len() {
+        return Err(refusal(10, 0));
+    }
+    match row[destination] {
+        NO_PATH => Ok(None),
+        byte if usize::from(byte) >= lent.nodes => Err(refusal(10, 0)),
+        byte => {
+            let next = usize::from(byte);
+            let falls = node != destination && lent.labels[next] < lent.labels[node];
+            let class = if falls { FALLING } else { class };
+            Ok(Some(Next { node: next, class }))
+        }
+    }
 }
 
-/// The nodes a message passes, source first, by the entries of the tables.
+/// The nodes a message passes, source first, by the entries of the tables and
+/// the labels themselves, without hop.
 pub fn follow(tables: &Tables, labels: &[usize], source: usize, destination: usize) -> Vec<usize> {
     let nodes = labels.len();
     let mut class = FREE;
     let mut route = vec![source];
     let mut at = source;
     while at != destination {
-        let next = hop(&tables.free, &tables.falling, nodes, at, class, destination)
-            .map(usize::from)
-            .expect("the tables fit the network");
+        let row = row(&tables.free, &tables.falling, nodes, at, class);
+        let next = usize::from(row[destination]);
         if labels[next] < labels[at] {
             class = FALLING;
         }

@@ -25,11 +25,68 @@ fn entries_and_rows() {
         text(&row_call(&free, &falling, [2, 2, 1])),
         "refused 10 0\n"
     );
-    assert_eq!(text(&hop_call(&free, &falling, [2, 0, 0, 1])), "hop 2\n");
-    assert_eq!(
-        text(&hop_call(&free, &falling, [2, 0, 256, 1])),
-        "refused 10 0\n"
-    );
+}
+
+#[test]
+fn hops() {
+    let board = Board::new(&[8, 7], &[0, 1, 0, 1], &[0, 255, 0, 2]);
+    let hop = |numbers| text(&hop_call(&board, numbers));
+    assert_eq!(hop([2, 0, 0, 1]), "hop 1 1\n");
+    assert_eq!(hop([2, 1, 0, 0]), "hop 0 0\n");
+    assert_eq!(hop([2, 0, 1, 1]), "none\n");
+    assert_eq!(hop([2, 1, 1, 1]), "refused 10 0\n");
+    assert_eq!(hop([2, 0, 256, 1]), "refused 10 0\n");
+    let mut input = hop_call(&board, [2, 0, 0, 1]);
+    input.push(0);
+    assert_eq!(text(&input), "bad call\n");
+    input.truncate(input.len() - 2);
+    assert_eq!(text(&input), "bad call\n");
+    let without_labels = Pack::call(3).bytes(&board.free).bytes(&board.falling);
+    let old = without_labels.numbers(&[2, 0, 0, 1]).done();
+    assert_eq!(text(&old), "bad call\n");
+}
+
+#[test]
+fn moves_without_a_start() {
+    let board = Board::of(&ring(4));
+    let messages = list(&[(0, 2), (0, 1), (9, 9), (9, 0)]);
+    let mut input = moves_call(4, &board, &messages, &[0], &[0, 1, 2, 2, 3, 4]);
+    let lines = "record 4 0\ndelivered\nheld\n\
+        moved\nblocked 0\ndelivered\nalready\nrefused 10 0\nrefused 10 0\n\
+        record 4 2\ndelivered 2\nheld 0 1 0\n";
+    assert_eq!(text(&input), lines);
+    let none = format!("{BLANK}{BLANK}");
+    assert_eq!(text(&moves_call(65_535, &board, &[7], &[5], &[])), none);
+    let classes = moves_call(4, &board, &messages, &[1, 0, 2, 1], &[0, 1, 2, 0]);
+    let lines = "record 4 0\ndelivered\nheld\n\
+        refused 10 0\nmoved\ndelivered\nrefused 10 0\n\
+        record 4 2\ndelivered 2\nheld 0 1 1\n";
+    assert_eq!(text(&classes), lines);
+    for length in 0..input.len() {
+        assert_eq!(text(&input[..length]), "bad call\n");
+    }
+    input.push(0);
+    assert_eq!(text(&input), "bad call\n");
+    let tables = Pack::call(12).number(4).bytes(&board.labels);
+    let tables = tables.bytes(&board.free).bytes(&board.falling);
+    let old = tables.bytes(&messages).numbers(&[1, 0]).done();
+    assert_eq!(text(&old), "bad call\n");
+}
+
+#[test]
+fn lengths_that_are_too_great() {
+    for (selector, front, fields, behind) in [(3, 0, 3, 8), (12, 2, 5, 2)] {
+        let good = [vec![selector], vec![0; front + 4 * fields + behind]].concat();
+        assert_ne!(text(&good), "bad call\n");
+        for field in 0..fields {
+            for length in [1, 65_536, 0x8000_0000_u32, 0xFFFF_FFFF] {
+                let place = 1 + front + 4 * field;
+                let mut bad = good.clone();
+                bad[place..place + 4].copy_from_slice(&length.to_le_bytes());
+                assert_eq!(text(&bad), "bad call\n");
+            }
+        }
+    }
 }
 
 #[test]
@@ -137,6 +194,7 @@ fn bad_calls() {
     let longer = [good.as_slice(), &[0]].concat();
     assert_eq!(text(&longer), "bad call\n");
     assert_eq!(text(&[12]), "bad call\n");
+    assert_eq!(text(&[13]), "bad call\n");
     assert_eq!(text(&[255, 0, 0]), "bad call\n");
 }
 

@@ -8,7 +8,7 @@ use second::drain::{Answer, Record};
 use second::image::{entry, Walker};
 use second::label::prohibited;
 use second::programs::{drain, drained, run, show};
-use second::rows::{hop, row};
+use second::rows::row;
 
 fn fabric(cabling: &Cabling) -> Fabric {
     accept(&cabling.links_image()).expect("accepted").0
@@ -191,13 +191,11 @@ fn rows_are_parts_of_the_lent_tables() {
     assert_eq!(row(&free, &falling, 3, 1, 0), [3, 4, 5]);
     let part = row(&free, &falling, 3, 2, 1);
     assert!(std::ptr::eq(part, &falling[6..9]));
-    assert_eq!(hop(&free, &falling, 3, 2, 1, 1), Ok(107));
     assert!(row(&free, &falling, 3, 3, 0).is_empty());
     assert!(row(&free, &falling, 3, 0, 2).is_empty());
     assert!(row(&free, &falling, 2, 0, 0).is_empty());
     assert!(row(&free, &falling[1..], 3, 0, 0).is_empty());
     assert!(row(&[0], &[0], 1, 0, 0).is_empty());
-    assert!(hop(&free, &falling, 3, 2, 1, 3).is_err());
 }
 
 #[test]
@@ -229,6 +227,13 @@ fn networks_marked_run() {
     assert!(text.contains("drained 4 12\nlooks 2\n"));
     let link = "falling 0 255 0 1\nsheet 50 10 48 32 49 10\nfabric 3 3 3 1\n";
     assert!(text.contains(link));
+    let hops = "falling 0 255 255 255 0 1 255 255 1 1 2 255 0 2 2 3\n\
+        hop 0 0 2 1 0\nhop 2 0 0 1 1\nhop 1 1 0 0 1\nhop 0 1 2 none\nhop 3 1 3 3 1\n\
+        sheet 52 10 ";
+    assert!(text.contains(hops));
+    let hub = "\nhop 1 0 3 0 0\nhop 0 0 3 3 0\nfabric 4 6 12 4\n";
+    assert!(text.contains(hub));
+    assert_eq!(text.matches("\nhop ").count(), 7);
     let ring = "sheet 52 10 48 32 49 10 48 32 51 10 49 32 50 10 50 32 51 10\nfabric 4 3 3 0\n";
     assert!(text.contains(ring));
 }

@@ -23,6 +23,8 @@ use Rattle.refusal.proofs.Verdicts.{then-fine}
 use Rattle.cabling.specs.Cabling.{Cabling, links, Good}
 use Rattle.cabling.specs.Faults.{isCounted, isShaped, badEnds, notAbove, badPair, crowded, unreached, nodeFault, linkFault, faultOf, isAbove}
 use Rattle.cabling.proofs.Meaning.{fault-fine}
+use Rattle.hops.specs.Row.{rowKnown, tableIn, rowIn}
+use Rattle.hops.specs.Hop.{classAfter, onwardOf, hopKnown, hopIn}
 use Rattle.rows.specs.Tables.{rowsOf}
 use Rattle.fabric.specs.Fabric.{labelsFor, rowsFor}
 use Rattle.format.specs.Contents.{linksKinds, fullKinds}
@@ -42,7 +44,7 @@ use Rattle.draining.specs.Drained.{drainOf}
 use Rattle.draining.proofs.Answers.{drain-record}
 use Rattle.draining.proofs.Meaning.{end-moves}
 use Rattle.by_hand.specs.Networks.{Worked, link, triangle, path, ring, hub, all-four, blocks, worked}
-use Rattle.by_hand.specs.Right.{Given, Right}
+use Rattle.by_hand.specs.Right.{Given, EveryHop, Right}
 
 -- over either image of a good cabling a drain counts the sum of (hops + 1), whatever its seed
 drained-moves : (c : Cabling) (list : List ℕ) → Good c → listFault (c .nodes) list ≡ Fine → (full : Bool) (old : Record) (seed : ℕ)
@@ -63,6 +65,7 @@ right : (e : Worked)
     → labelIn (e .labels) (e .first) ≡ 1
     → Given (e .free) (rowsFor (e .cabling) true)
     → Given (e .falling) (rowsFor (e .cabling) false)
+    → EveryHop (labelsFor (e .cabling)) (rowsFor (e .cabling) true) (rowsFor (e .cabling) false) (e .cabling .nodes) (e .hops)
     → Given (e .links-image) (imageOf linksKinds (e .cabling))
     → Given (e .full-image) (imageOf fullKinds (e .cabling))
     → Given (e .sheet) (sheetOf (e .cabling))
@@ -70,7 +73,7 @@ right : (e : Worked)
     → allMoves (e .cabling .nodes) (links (e .cabling)) (e .labels) (e .messages) ≡ e .moves
     → ((full : Bool) → pickOf 0 (freshOf (imageOf (kindsOf full) (e .cabling)) (e .messages)) .look ≡ e .look)
     → Right e
-right e fine labels turns barred first free falling short long sheet listed sum look =
+right e fine labels turns barred first free falling hops short long sheet listed sum look =
     let c = e .cabling in
     let good = fault-fine c .0 fine in
     record {
@@ -81,6 +84,7 @@ right e fine labels turns barred first free falling short long sheet listed sum 
       first = ap (λ (l : List ℕ). labelIn l (e .first)) labels ∙ first;
       free = free;
       falling = falling;
+      hops = hops;
       links-image = short;
       full-image = long;
       sheet = sheet;
@@ -100,13 +104,13 @@ unfolding _&_ _or_ non same below sumTo any all least leastValue lowestAt leastB
     among degree grow spread reach covers joined connected cut joins linkedBy linked rises falls prohibited
     leads joining layer lowestLead firstLayer entry freeAfter follow routeOf room candidate choice remains give stage labelled labelsOf turnsThat
     faultOf linkFault nodeFault unreached crowded badPair notAbove isAbove badEnds isShaped isCounted
-    rowsOf entriesOf joinedUp imageFrom bodiesOf imageOf messagesIn routeIn allMoves fits strange listFault begunOf freshOf lookAt pickOf
+    rowsOf tableIn rowKnown rowIn classAfter onwardOf hopKnown hopIn entriesOf joinedUp imageFrom bodiesOf imageOf messagesIn routeIn allMoves fits strange listFault begunOf freshOf lookAt pickOf
     places decimalOf fieldsOf linkLines sheetOf
 every-right =
-    and-this (right link refl refl refl refl refl refl refl refl refl refl refl refl (λ full. refl))
-    (and-this (right triangle refl refl refl refl refl refl refl tt tt tt refl refl (λ full. refl))
-    (and-this (right path refl refl refl refl refl refl refl tt tt tt refl refl (λ full. refl))
-    (and-this (right ring refl refl refl refl refl refl refl tt tt refl refl refl (λ full. refl))
-    (and-this (right hub refl refl refl refl refl refl refl tt tt tt refl refl (λ full. refl))
-    (and-this (right all-four refl refl refl refl refl refl refl tt tt tt refl refl (λ full. refl))
-    (and-this (right blocks refl refl refl refl refl tt tt tt tt tt refl refl (λ full. refl)) no-entry))))))
+    and-this (right link refl refl refl refl refl refl refl tt refl refl refl refl refl (λ full. refl))
+    (and-this (right triangle refl refl refl refl refl refl refl tt tt tt tt refl refl (λ full. refl))
+    (and-this (right path refl refl refl refl refl refl refl tt tt tt tt refl refl (λ full. refl))
+    (and-this (right ring refl refl refl refl refl refl refl (refl, (refl, (refl, (refl, (refl, tt))))) tt tt refl refl refl (λ full. refl))
+    (and-this (right hub refl refl refl refl refl refl refl (refl, (refl, tt)) tt tt tt refl refl (λ full. refl))
+    (and-this (right all-four refl refl refl refl refl refl refl tt tt tt tt refl refl (λ full. refl))
+    (and-this (right blocks refl refl refl refl refl tt tt tt tt tt tt refl refl (λ full. refl)) no-entry))))))

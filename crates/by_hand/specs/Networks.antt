@@ -2,9 +2,21 @@
 use mathlib.Core.List.{List, [], _∷_}
 use Prim.Native.Nat.{ℕ}
 use Rattle.cabling.specs.Cabling.{Cabling, cabled}
+use Rattle.hops.specs.declared.HopAnswer.{HopAnswer}
+use Rattle.hops.specs.declared.HopAnswer.the-variants.{Next, NoWay}
 
--- a cabling, with what the rules give for it: the labels, T, W, the node that is labelled first, both tables of rows, both images and the sheet; then messages, how
--- many successful moves drain them, and which of them seed 0 looks at first. Rows, images and sheets that are left empty are not worked by hand
+-- what hop is asked, and its answer
+pub record Asked : Type 0 where
+  pub node : ℕ
+  pub class : ℕ
+  pub destination : ℕ
+  pub answer : HopAnswer
+
+abbrev pub asked : ℕ → ℕ → ℕ → HopAnswer → Asked
+asked node class destination answer = record { node = node; class = class; destination = destination; answer = answer }
+
+-- a cabling, with what the rules give for it: the labels, T, W, the node that is labelled first, both tables of rows, hops by them, both images and the sheet; then
+-- messages, how many successful moves drain them, and which of them seed 0 looks at first. Rows, hops, images and sheets that are left empty are not worked by hand
 pub record Worked : Type 0 where
   pub cabling : Cabling
   pub labels : List ℕ
@@ -13,6 +25,7 @@ pub record Worked : Type 0 where
   pub first : ℕ
   pub free : List ℕ
   pub falling : List ℕ
+  pub hops : List Asked
   pub links-image : List ℕ
   pub full-image : List ℕ
   pub sheet : List ℕ
@@ -31,6 +44,7 @@ link = record {
   first = 0;
   free = 0 ∷ 1 ∷ 0 ∷ 1 ∷ [];
   falling = 0 ∷ 255 ∷ 0 ∷ 1 ∷ [];
+  hops = [];
   links-image = 1 ∷ 1 ∷ 1 ∷ 0 ∷ 8 ∷ 0 ∷ 4 ∷ 0 ∷ 2 ∷ 0 ∷ 0 ∷ 1 ∷ [];
   full-image = 1 ∷ 4 ∷ 1 ∷ 0 ∷ 26 ∷ 0 ∷ 4 ∷ 0 ∷ 2 ∷ 0 ∷ 30 ∷ 0 ∷ 2 ∷ 0 ∷ 3 ∷ 0 ∷ 32 ∷ 0 ∷ 4 ∷ 0 ∷ 4 ∷ 0 ∷ 36 ∷ 0 ∷ 4 ∷ 0 ∷ 2 ∷ 0 ∷ 0 ∷ 1 ∷ 1 ∷ 2 ∷ 0 ∷ 1 ∷ 0 ∷ 1 ∷ 0 ∷ 255 ∷ 0 ∷ 1 ∷ [];
   sheet = 50 ∷ 10 ∷ 48 ∷ 32 ∷ 49 ∷ 10 ∷ [];
@@ -49,6 +63,7 @@ triangle = record {
   first = 0;
   free = 0 ∷ 1 ∷ 2 ∷ 0 ∷ 1 ∷ 2 ∷ 0 ∷ 1 ∷ 2 ∷ [];
   falling = 0 ∷ 255 ∷ 255 ∷ 0 ∷ 1 ∷ 255 ∷ 0 ∷ 1 ∷ 2 ∷ [];
+  hops = [];
   links-image = [];
   full-image = [];
   sheet = [];
@@ -67,6 +82,7 @@ path = record {
   first = 0;
   free = 0 ∷ 1 ∷ 1 ∷ 0 ∷ 1 ∷ 2 ∷ 1 ∷ 1 ∷ 2 ∷ [];
   falling = 0 ∷ 255 ∷ 255 ∷ 0 ∷ 1 ∷ 255 ∷ 1 ∷ 1 ∷ 2 ∷ [];
+  hops = [];
   links-image = [];
   full-image = [];
   sheet = [];
@@ -76,7 +92,9 @@ path = record {
 }
 
 -- RULES 11.1: "Ring 0-1, 0-3, 1-2, 2-3: labels 1, 2, 3, 4; falling rows 0 - - -; 0 1 - -; 1 1 2 -; 0 2 2 3 (- is 255).", the free rows that Show prints, and
--- "The ring's messages 0→2, 1→3, 2→0, 3→1 take 12 successful moves. From seed 0 the drain looks at message 2 first."
+-- "The ring's messages 0→2, 1→3, 2→0, 3→1 take 12 successful moves. From seed 0 the drain looks at message 2 first."; RULES 11.1: "Hops of the ring, as node, class
+-- and destination, and what hop answers: 0 free to 2, node 1 free; 2 free to 0, node 1 falling; 1 falling to 0, node 0 falling; 0 falling to 2, none; 3 falling
+-- to 3, node 3 falling."
 abbrev pub ring : Worked
 ring = record {
   cabling = cabled 4 (0 ∷ 1 ∷ 0 ∷ 3 ∷ 1 ∷ 2 ∷ 2 ∷ 3 ∷ []);
@@ -86,6 +104,7 @@ ring = record {
   first = 0;
   free = 0 ∷ 1 ∷ 1 ∷ 3 ∷ 0 ∷ 1 ∷ 2 ∷ 2 ∷ 1 ∷ 1 ∷ 2 ∷ 3 ∷ 0 ∷ 2 ∷ 2 ∷ 3 ∷ [];
   falling = 0 ∷ 255 ∷ 255 ∷ 255 ∷ 0 ∷ 1 ∷ 255 ∷ 255 ∷ 1 ∷ 1 ∷ 2 ∷ 255 ∷ 0 ∷ 2 ∷ 2 ∷ 3 ∷ [];
+  hops = asked 0 0 2 (Next 1 0) ∷ asked 2 0 0 (Next 1 1) ∷ asked 1 1 0 (Next 0 1) ∷ asked 0 1 2 NoWay ∷ asked 3 1 3 (Next 3 1) ∷ [];
   links-image = [];
   full-image = [];
   sheet = 52 ∷ 10 ∷ 48 ∷ 32 ∷ 49 ∷ 10 ∷ 48 ∷ 32 ∷ 51 ∷ 10 ∷ 49 ∷ 32 ∷ 50 ∷ 10 ∷ 50 ∷ 32 ∷ 51 ∷ 10 ∷ [];
@@ -94,7 +113,7 @@ ring = record {
   look = 2;
 }
 
--- RULES 11.1: "Hub 0 with leaves 1, 2, 3: labels 3, 1, 2, 4."
+-- RULES 11.1: "Hub 0 with leaves 1, 2, 3: labels 3, 1, 2, 4. Hops: 1 free to 3, node 0 free; 0 free to 3, node 3 free."
 abbrev pub hub : Worked
 hub = record {
   cabling = cabled 4 (0 ∷ 1 ∷ 0 ∷ 2 ∷ 0 ∷ 3 ∷ []);
@@ -104,6 +123,7 @@ hub = record {
   first = 1;
   free = 0 ∷ 1 ∷ 2 ∷ 3 ∷ 0 ∷ 1 ∷ 0 ∷ 0 ∷ 0 ∷ 0 ∷ 2 ∷ 0 ∷ 0 ∷ 0 ∷ 0 ∷ 3 ∷ [];
   falling = 0 ∷ 1 ∷ 2 ∷ 255 ∷ 255 ∷ 1 ∷ 255 ∷ 255 ∷ 255 ∷ 255 ∷ 2 ∷ 255 ∷ 0 ∷ 0 ∷ 0 ∷ 3 ∷ [];
+  hops = asked 1 0 3 (Next 0 0) ∷ asked 0 0 3 (Next 3 0) ∷ [];
   links-image = [];
   full-image = [];
   sheet = [];
@@ -122,6 +142,7 @@ all-four = record {
   first = 0;
   free = 0 ∷ 1 ∷ 2 ∷ 3 ∷ 0 ∷ 1 ∷ 2 ∷ 3 ∷ 0 ∷ 1 ∷ 2 ∷ 3 ∷ 0 ∷ 1 ∷ 2 ∷ 3 ∷ [];
   falling = 0 ∷ 255 ∷ 255 ∷ 255 ∷ 0 ∷ 1 ∷ 255 ∷ 255 ∷ 0 ∷ 1 ∷ 2 ∷ 255 ∷ 0 ∷ 1 ∷ 2 ∷ 3 ∷ [];
+  hops = [];
   links-image = [];
   full-image = [];
   sheet = [];
@@ -141,6 +162,7 @@ blocks = record {
   first = 7;
   free = [];
   falling = [];
+  hops = [];
   links-image = [];
   full-image = [];
   sheet = [];

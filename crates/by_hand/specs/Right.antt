@@ -13,12 +13,18 @@ use Rattle.messages.specs.declared.Record.{Record}
 use Rattle.start.specs.Start.{freshOf}
 use Rattle.picking.specs.Order.{pickOf}
 use Rattle.draining.specs.Drained.{drainOf}
-use Rattle.by_hand.specs.Networks.{Worked}
+use Rattle.hops.specs.Hop.{hopIn}
+use Rattle.by_hand.specs.Networks.{Asked, Worked}
 
 -- a list is the one that is worked by hand; what is left empty is not worked by hand
 abbrev pub Given : List ℕ → List ℕ → Type 0
 Given [] l = Unit {0}
 Given (x ∷ given) l = l ≡ x ∷ given
+
+-- each hop by these labels and tables is answered as it is worked by hand
+abbrev pub EveryHop : List ℕ → List ℕ → List ℕ → ℕ → List Asked → Type 0
+EveryHop labels free falling n [] = Unit {0}
+EveryHop labels free falling n (a ∷ l) = (hopIn labels free falling n (a .node) (a .class) (a .destination) ≡ a .answer) × EveryHop labels free falling n l
 
 pub record Right (e : Worked) : Type 0 where
   -- a cabling that no call refuses
@@ -33,6 +39,8 @@ pub record Right (e : Worked) : Type 0 where
   pub falling : Given (e .falling) (rowsFor (e .cabling) false)
   pub links-image : Given (e .links-image) (imageOf linksKinds (e .cabling))
   pub full-image : Given (e .full-image) (imageOf fullKinds (e .cabling))
+  -- RULES 11.1: "Hops of the ring", RULES 11.1: "Hops: 1 free to 3, node 0 free"
+  pub hops : EveryHop (labelsFor (e .cabling)) (rowsFor (e .cabling) true) (rowsFor (e .cabling) false) (e .cabling .nodes) (e .hops)
   -- RULES 11.1: "The sheet of the link is 32 0A 30 20 31 0A in hexadecimal; that of the ring is in 10.6."
   pub sheet : Given (e .sheet) (sheetOf (e .cabling))
   -- RULES 11.1: "take 12 successful moves": so many a drain counts over either image, whatever its seed and whatever the record was

@@ -1,8 +1,10 @@
-// Calls of the drain machine: steps, starts on one record with moves of named messages behind each; and trace, a drain with a line for each move.
+// Calls of the drain machine: steps, starts on one record with moves of named messages behind each; moves, in a record that no start made; and trace, a drain
+// with a line for each move.
 ghost use Prim.Native.Nat.{_≤_};
 use crate::answers;
 use crate::arguments;
 use messages::MAX_MESSAGES;
+use messages::MAX_PAIRS;
 use messages::Record;
 use nodes::MAX_NODES;
 use refusal::Refusal;
@@ -129,6 +131,55 @@ pub fn steps(args: &[u8]) -> bool {
         return false;
     }
     rounds(args);
+    true
+}
+
+// The labels of a record: bytes at the front, zeros behind.
+fn labelled(bytes: &[u8]) -> [u8; MAX_NODES] {
+    let mut labels = [0u8; MAX_NODES];
+    laid::put(&mut labels, 0, slices::front(bytes, MAX_NODES));
+    labels
+}
+
+// A table of it likewise.
+fn tabled(bytes: &[u8]) -> [u8; MAX_PAIRS] {
+    let mut table = [0u8; MAX_PAIRS];
+    laid::put(&mut table, 0, slices::front(bytes, MAX_PAIRS));
+    table
+}
+
+// The classes of its messages likewise.
+fn classed(bytes: &[u8]) -> [u8; MAX_MESSAGES] {
+    let mut classes = [0u8; MAX_MESSAGES];
+    laid::put(&mut classes, 0, slices::front(bytes, MAX_MESSAGES));
+    classes
+}
+
+// Moves in a record that no start made: N, labels, both tables, a list and classes as they are given, how many messages are named, and their numbers.
+pub fn moves(args: &[u8]) -> bool {
+    let labels = arguments::behind(args, 2);
+    let free = arguments::after_bytes(labels);
+    let falling = arguments::after_bytes(free);
+    let list = arguments::after_bytes(falling);
+    let classes = arguments::after_bytes(list);
+    let tries = arguments::after_bytes(classes);
+    if tries.len() < 2 {
+        return false;
+    }
+    if tries.len() != 2 + 2 * format::number_at(tries, 0) {
+        return false;
+    }
+    let mut record = records::begun(
+        format::number_at(args, 0),
+        labelled(arguments::bytes(labels)),
+        tabled(arguments::bytes(free)),
+        tabled(arguments::bytes(falling)),
+        arguments::bytes(list),
+    );
+    let kinds = classed(arguments::bytes(classes));
+    record.classes = kinds;
+    state(record);
+    stepped(record, arguments::behind(tries, 2));
     true
 }
 

@@ -6,7 +6,7 @@ ghost use lib.ListN.{length};
 mod answers; // answers.rt: what is printed
 mod arguments; // arguments.rt: the arguments, taken from the input's front
 mod buffers; // buffers.rt: route, read, write, build, cable and sheet, with a lent buffer
-mod machines; // machines.rt: steps and trace, of the drain machine
+mod machines; // machines.rt: steps, moves and trace, of the drain machine
 mod tables; // tables.rt: entry, walk, row and hop
 
 // As much as is read.
@@ -31,6 +31,7 @@ fn call(selector: u8, args: &[u8]) -> bool {
         9 => machines::trace(args),
         10 => buffers::cable(args),
         11 => buffers::sheet(args),
+        12 => machines::moves(args),
         _ => false,
     }
 }

@@ -1,4 +1,4 @@
-// Calls that read lent bytes: an entry of the contents, a walk over them, a row of the two tables, one byte of a row.
+// Calls that read lent bytes: an entry of the contents, a walk over them, a row of the two tables, a hop by them.
 use crate::answers;
 use crate::arguments;
 use hops::HopAnswer;
@@ -60,20 +60,23 @@ pub fn row(args: &[u8]) -> bool {
 
 fn hop_line(answer: HopAnswer) {
     match answer {
-        HopAnswer::Next(b) => answers::one(b"hop", b as usize),
+        HopAnswer::Next(node, class) => answers::two(b"hop", node as usize, class as usize),
+        HopAnswer::NoWay => answers::word(b"none\n"),
         HopAnswer::Refused(r) => answers::refused(r),
     }
 }
 
 pub fn hop(args: &[u8]) -> bool {
     let second = arguments::after_bytes(args);
-    let rest = arguments::after_bytes(second);
+    let third = arguments::after_bytes(second);
+    let rest = arguments::after_bytes(third);
     if rest.len() != 8 {
         return false;
     }
     hop_line(hops::hop(
         arguments::bytes(args),
         arguments::bytes(second),
+        arguments::bytes(third),
         format::number_at(rest, 0),
         format::number_at(rest, 2),
         format::number_at(rest, 4),

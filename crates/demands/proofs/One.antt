@@ -2,14 +2,13 @@
 -- leaves what was lent.
 use mathlib.Core.Path.{_≡_, refl, sym, _∙_, ap}
 use mathlib.Core.List.{List}
-use mathlib.Core.Logic.{_↔_, _⊎_, inl, inr, ⊎-elim}
-use Prim.Native.Nat.{ℕ, _≤_}
-use native.Mathlib.Omega.{arith}
+use mathlib.Core.Logic.{_↔_, inl, inr}
+use Prim.Native.Nat.{ℕ}
 use lib.Dec.{leb}
 use lib.ListN.{length}
 use borrow.Author.Tests.{leb-true, leb-false}
 use Rattle.finite.specs.Truth.{below}
-use Rattle.finite.proofs.Truth.{no-tf, bcase, both, below-lt, below-le}
+use Rattle.finite.proofs.Truth.{bcase, below-lt, below-le}
 use Rattle.refusal.specs.declared.Refusal.{Refusal}
 use Rattle.refusal.specs.declared.Refusal.the-variants.{Short, Unknown}
 use Rattle.refusal.proofs.Determined.{refusal-unique}
@@ -38,21 +37,20 @@ use Rattle.sheets.specs.Faults.{sheetFault}
 use Rattle.sheets.specs.Verdicts.{OfSheet}
 use Rattle.sheets.specs.Promises.{Cables, Sheets}
 use Rattle.sheets.proofs.Meaning.{sheet-means}
+use Rattle.hops.specs.declared.HopAnswer.{HopAnswer}
 use Rattle.hops.specs.declared.HopAnswer.the-variants as hop
 use Rattle.messages.specs.declared.Record.{Record}
 use Rattle.messages.specs.declared.Stepped.{Stepped}
 use Rattle.messages.specs.declared.Answer.{Answer}
 use Rattle.messages.specs.declared.Answer.the-variants as move
-use Rattle.messages.specs.Sizes.{maxMessages}
-use Rattle.messages.specs.Step.{with, stepOf}
+use Rattle.messages.specs.Step.{with}
 use Rattle.messages.specs.Runs.{successful}
-use Rattle.messages.proofs.Moves.{Case, unknown, already, arrives, waits, moves, step-case, step-none}
-use Rattle.messages.proofs.Answers.{unchanged}
+use Rattle.messages.proofs.Answers.{unchanged, move-refused-iff}
 use Rattle.hops.proofs.Meaning.{row-refused-iff, hop-refused-iff, hop-refusal}
 use Rattle.start.specs.declared.Started.{Started}
 use Rattle.start.specs.Start.{startFault, recordAfter, startOf}
 use Rattle.start.proofs.Meaning.{start-means}
-use Rattle.demands.specs.Calls.{ReaderStep, Never, NoRows, NotStarts, Start, StartRows, NotMoves, Move, MoveRows, NoRow, Row, RowRows, NoHop, Hop, HopRows, Numbered, KeepsPromise, RefusalRows, fault, short, NotWrites, Write, WriteRows, Build, BuildRows, CableRows, SheetRows, NotReads, ReadRows, OfRoute, of-image, no-node, of-nodes, Route, RouteRows}
+use Rattle.demands.specs.Calls.{ReaderStep, Never, NoRows, NotStarts, Start, StartRows, NotMoves, Move, MoveRows, NoRow, Row, RowRows, NotHops, Hop, HopRows, Numbered, KeepsPromise, RefusalRows, fault, short, NotWrites, Write, WriteRows, Build, BuildRows, CableRows, SheetRows, NotReads, ReadRows, OfRoute, of-image, no-node, of-nodes, Route, RouteRows}
 
 -- the same refusals, so the same numbers and places
 numbered : {P Q : Refusal → Type 0} → ((r : Refusal) → P r ↔ Q r) → (number place : ℕ) → Numbered P number place ↔ Numbered Q number place
@@ -157,25 +155,12 @@ start-keeps = record {
 pub move-keeps : KeepsPromise Move NotMoves MoveRows
 move-keeps = record {
   one = λ m s t u a b x y. let e = x ∙ sym y in (ap (λ (z : Stepped). z .answer) e, ap (λ (z : Stepped). z .«record») e);
-  given = λ m s t a x. numbered (λ r. (λ e. refused (step-case s m) (sym (answer-of x) ∙ e), λ o. answer-of x ∙ none s m (o .1) ∙ ap move.Refused (sym (o .0))));
+  given = λ m s t a x. numbered (λ r. let i = move-refused-iff s m r in (λ e. i .0 (sym (answer-of x) ∙ e), λ o. answer-of x ∙ i .1 o));
   untouched = λ m s t a r x e. ap (λ (z : Stepped). z .«record») x ∙ unchanged s m (ap successful (sym (answer-of x) ∙ e));
 }
   where
     answer-of : {a : Answer} {t : Record} {y : Stepped} → with t a ≡ y → a ≡ y .answer
     answer-of x = ap (λ (z : Stepped). z .answer) x
-
-    none : (s : Record) (m : ℕ) → (s .messages ≤ m) ⊎ (maxMessages ≤ m) → stepOf s m .answer ≡ move.Refused (Unknown 0)
-    none s m h = ap (λ (z : Stepped). z .answer) (step-none s m (⊎-elim (λ l. omega arith) (λ l. omega arith) h))
-
-    refused : {s : Record} {m : ℕ} {x : Stepped} {r : Refusal} → Case s m x → x .answer ≡ move.Refused r → MoveRows m s r
-    refused {s} {m} (unknown t) e = (
-      cc,
-      bcase (below m (s .messages)) (λ k. bcase (below m maxMessages) (λ l. no-tf (both k l) t) (λ l. inr (below-le _ _ l))) (λ k. inl (below-le _ _ k)),
-    )
-    refused (already l u) e = let z : _≡_ {A = ℕ} 0 1 = cc in absurd (omega arith)
-    refused (arrives l u h) e = no-tf refl (ap successful e)
-    refused (waits l u d h) e = let z : _≡_ {A = ℕ} 0 1 = cc in absurd (omega arith)
-    refused (moves l u d h) e = no-tf refl (ap successful e)
 
 -- ---- calls over tables
 
@@ -186,15 +171,16 @@ row-keeps = record {
   untouched = λ i s t a r x e. refl;
 }
 
-pub hop-keeps : KeepsPromise Hop NoHop HopRows
+pub hop-keeps : KeepsPromise Hop NotHops HopRows
 hop-keeps = record {
   one = λ i s t u a b x y. (x ∙ sym y, refl);
   given = λ i s t a x.
       numbered (λ r.
-      let m = hop-refused-iff (i .0 .0) (i .0 .1) (i .0 .2) (i .0 .3) (i .0 .4) (i .1) in (
+      let (labels, (free, falling, n, node, class), destination) = i in
+      let m = hop-refused-iff free falling n node class labels destination in (
         λ e.
-            let (n, p) = hop-refusal (i .0 .0) (i .0 .1) (i .0 .2) (i .0 .3) (i .0 .4) (i .1) r (sym x ∙ e) in
-            let q : r ≡ Unknown 0 = refusal-unique r (Unknown 0) n p in
+            let (number, p) = hop-refusal free falling n node class labels destination r (sym x ∙ e) in
+            let q : r ≡ Unknown 0 = refusal-unique r (Unknown 0) number p in
             (m .0 (sym x ∙ e ∙ ap hop.Refused q), q),
         λ o. x ∙ m .1 (o .0) ∙ ap hop.Refused (sym (o .1)),
       ));

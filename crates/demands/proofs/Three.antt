@@ -10,15 +10,17 @@ use Rattle.refusal.specs.declared.Verdict.the-variants.{Fine}
 use Rattle.cabling.specs.Cabling.{Cabling, links}
 use Rattle.fabric.specs.Fabric.{fabricOf}
 use Rattle.image.specs.Image.{cablingIn}
+use Rattle.hops.specs.Tabled.{Tabled}
 use Rattle.messages.specs.declared.Record.{Record}
 use Rattle.messages.specs.Step.{stepOf}
 use Rattle.messages.specs.Fresh.{begunOf}
-use Rattle.messages.specs.Runs.{Tabled, Listed, allMoves, Reached, move, successful}
-use Rattle.messages.proofs.Answers.{unchanged}
+use Rattle.messages.specs.Runs.{Listed, allMoves, Reached, move, successful}
+use Rattle.messages.proofs.Answers.{unchanged, each-answer}
 use Rattle.messages.proofs.Total.{sum-of-shortest}
 use Rattle.messages.proofs.Drain.{progress, never-more, all-delivered, every-link-free, counts-one}
 use Rattle.start.specs.Start.{startFault, freshOf, recordAfter, startOf}
-use Rattle.start.proofs.Fabrics.{label-read, start-reached, start-fabric, start-listed}
+use Rattle.fabric.proofs.Arrays.{label-read}
+use Rattle.start.proofs.Fabrics.{start-reached, start-fabric, start-listed}
 use Rattle.demands.specs.Tries.{tried, succeeded, ShortestPaths, sumOver, Drains}
 
 -- tries go on with a run, and its count of moves grows by those that succeed
@@ -62,6 +64,7 @@ module _ (b list : List ℕ) (fine : startFault b list ≡ Fine) where
       let all = all-delivered tabled listed run in
       record {
         goes-on = progress tabled listed run;
+        never-refused = λ m l f e. let high = (rw e at (each-answer tabled listed run m)) .0 in omega arith;
         never-more = omega arith;
         whole = (λ e. all .0 (omega arith), λ d. let e = all .1 d in omega arith);
         free = every-link-free tabled listed run;

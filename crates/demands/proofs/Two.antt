@@ -11,10 +11,12 @@ use Rattle.lawful.specs.Turn.{labelIn}
 use Rattle.lawful.specs.Path.{LawfulTo, Shortest}
 use Rattle.cabling.specs.Cabling.{Cabling, cabled, Good, links}
 use Rattle.cabling.specs.Faults.{faultOf}
+use Rattle.hops.specs.Hop.{hopIn, walkBy}
 use Rattle.fabric.specs.Fabric.{labelsFor, labelFor, rowsFor, routeFor}
 use Rattle.fabric.proofs.Labels.{labels-length, good-by-rule, good-labels-unique}
 use Rattle.fabric.proofs.Rows.{good-free-rows, good-falling-rows, free-rows-unique, falling-rows-unique}
 use Rattle.fabric.proofs.Routes.{good-route}
+use Rattle.fabric.proofs.Hops.{good-walk}
 use Rattle.format.specs.Contents.{linksKinds, fullKinds}
 use Rattle.format.proofs.Order.{in-order-iff}
 use Rattle.results.specs.declared.Written.{Written}
@@ -49,6 +51,14 @@ module _ (c : Cabling) (g : Good c) where
   pub demand-2-route : (s t : ℕ) → s < c .nodes → t < c .nodes
       → ((l : List ℕ) × LawfulTo (links c) (labelFor c) s t l) × Shortest (LawfulTo (links c) (labelFor c) s t) (routeFor c s t)
   demand-2-route s t a z = let r = good-route g s t a z in ((routeFor c s t, r .is), r)
+
+  -- RULES 7.5: "Where they are an image's own, a message that asks hop at each node, free at first and then with the class that it was answered, walks its
+  -- route (5.4).": of any labels and tables by the rule the nodes that hop names are a shortest lawful path
+  pub demand-2-hop : {labels free falling : List ℕ} → ByTheRule c labels free falling → (s t : ℕ) → s < c .nodes → t < c .nodes
+      → Shortest (LawfulTo (links c) (labelIn labels) s t) (walkBy (λ v class. hopIn labels free falling (c .nodes) v class t) t (c .nodes + c .nodes) 0 s)
+  demand-2-hop r s t a z =
+      let (x, y, w) = rule-unique r in
+      rw (x, y, w, good-walk g s t a z) (good-route g s t a z)
 
   module _ {before after : List ℕ} where
     -- RULES 2.2: "Connected cabling inside the limits, given room, is never refused.": build answers, with labels and entries by the rule

@@ -16,7 +16,8 @@ use Rattle.cabling.specs.Faults.{faultOf}
 use Rattle.cabling.specs.Verdicts.{Means}
 use Rattle.hops.specs.declared.HopAnswer.{HopAnswer}
 use Rattle.hops.specs.declared.HopAnswer.the-variants as hop
-use Rattle.hops.specs.Row.{RowFault, rowIn, hopIn}
+use Rattle.hops.specs.Row.{RowFault, rowIn}
+use Rattle.hops.specs.Hop.{hopIn, HopFault}
 use Rattle.format.specs.Contents.{linksKinds, fullKinds, nodesIn, pairsIn}
 use Rattle.format.specs.declared.Entry.{Entry}
 use Rattle.contents.specs.declared.Reader.{Reader}
@@ -32,12 +33,12 @@ use Rattle.reading.specs.declared.Outcome.the-variants.{NotRead}
 use Rattle.route.specs.Route.{routeFault, routeBytes}
 use Rattle.sheets.specs.Sheet.{sheetOf, cablingOn}
 use Rattle.sheets.specs.Verdicts.{OfSheet}
-use Rattle.messages.specs.Sizes.{maxMessages}
 use Rattle.messages.specs.declared.Record.{Record}
 use Rattle.messages.specs.declared.Answer.{Answer}
 use Rattle.messages.specs.declared.Answer.the-variants as move
 use Rattle.messages.specs.Step.{with}
 use Rattle.messages.specs.Step as machine
+use Rattle.messages.specs.Tells.{MoveFault}
 use Rattle.start.specs.Start.{beside, startOf}
 use Rattle.start.specs.Verdicts.{OfStart}
 
@@ -118,9 +119,8 @@ NotMoves a r = a ≡ move.Refused r
 abbrev pub Move : ℕ → Record → Answer → Record → Type 0
 Move m old a after = with after a ≡ machine.stepOf old m
 
--- 10, RULES 9.1: "Move: no such message."
 abbrev pub MoveRows : ℕ → Record → Refusal → Type 0
-MoveRows m old r = (r ≡ Unknown 0) × ((old .messages ≤ m) ⊎ (maxMessages ≤ m))
+MoveRows m old r = (r ≡ Unknown 0) × MoveFault old m
 
 -- ---- calls over tables: nothing is lent to be written
 
@@ -138,15 +138,15 @@ Row i s a t = a ≡ rowIn (i .0) (i .1) (i .2) (i .3) (i .4)
 abbrev pub RowRows : InTables → Unit {0} → Refusal → Type 0
 RowRows i s r = RowFault (i .0) (i .1) (i .2) (i .3) (i .4) × (r ≡ Unknown 0)
 
-abbrev pub NoHop : HopAnswer → Refusal → Type 0
-NoHop a r = a ≡ hop.Refused r
+abbrev pub NotHops : HopAnswer → Refusal → Type 0
+NotHops a r = a ≡ hop.Refused r
 
--- and a destination
-abbrev pub Hop : InTables × ℕ → Unit {0} → HopAnswer → Unit {0} → Type 0
-Hop i s a t = a ≡ hopIn (i .0 .0) (i .0 .1) (i .0 .2) (i .0 .3) (i .0 .4) (i .1)
+-- the labels before them, and a destination behind
+abbrev pub Hop : List ℕ × InTables × ℕ → Unit {0} → HopAnswer → Unit {0} → Type 0
+Hop i s a t = let (labels, (free, falling, n, node, class), destination) = i in a ≡ hopIn labels free falling n node class destination
 
-abbrev pub HopRows : InTables × ℕ → Unit {0} → Refusal → Type 0
-HopRows i s r = (RowFault (i .0 .0) (i .0 .1) (i .0 .2) (i .0 .3) (i .0 .4) ⊎ (i .0 .2 ≤ i .1)) × (r ≡ Unknown 0)
+abbrev pub HopRows : List ℕ × InTables × ℕ → Unit {0} → Refusal → Type 0
+HopRows i s r = let (labels, (free, falling, n, node, class), destination) = i in HopFault labels free falling n node class destination × (r ≡ Unknown 0)
 
 -- ---- the reader of the contents: it refuses nothing, and where there is no entry it answers none and stays
 

@@ -9,9 +9,11 @@ use Rattle.finite.specs.Truth.{non}
 use Rattle.finite.specs.Sum.{sumTo, when}
 use Rattle.finite.specs.Search.{Some}
 use Rattle.lawful.specs.Path.{LawfulTo, Shortest}
+use Rattle.refusal.specs.declared.Refusal.{Refusal}
 use Rattle.cabling.specs.Cabling.{Cabling, links}
 use Rattle.fabric.specs.Fabric.{labelFor}
 use Rattle.messages.specs.declared.Record.{Record}
+use Rattle.messages.specs.declared.Answer.the-variants.{Refused}
 use Rattle.messages.specs.Step.{isDelivered, holder, stepOf}
 use Rattle.messages.specs.Fresh.{sourceIn, targetIn}
 use Rattle.messages.specs.Runs.{messagesIn, successful}
@@ -41,6 +43,8 @@ AllDelivered list r = (m : ℕ) → m < messagesIn list → isDelivered r m ≡ 
 pub record Drains (list : List ℕ) (begun : Record) (tries : List ℕ) (sum : ℕ) : Type 0 where
   -- RULES 2.3: "In whichever order moves are tried, while a message is undelivered some message can move."
   pub goes-on : Some (messagesIn list) (λ m. non (isDelivered (tried begun tries) m)) → Some (messagesIn list) (λ m. successful (stepOf (tried begun tries) m .answer))
+  -- RULES 8.3: "Hop answers a node in every record that a start and moves lead to": no message of the list is refused
+  pub never-refused : (m : ℕ) → m < messagesIn list → (f : Refusal) → stepOf (tried begun tries) m .answer ≡ Refused f → ⊥
   -- RULES 2.3: "Successful moves never exceed the sum"
   pub never-more : succeeded begun tries ≤ sum
   -- RULES 2.3: "They reach that sum exactly when every message is delivered"

@@ -18,7 +18,8 @@ use Rattle.messages.proofs.Drain.{all-delivered, every-link-free}
 use Rattle.messages.proofs.Reached.{reached-state}
 use Rattle.messages.proofs.Ready.{delivered-every, messages-listed}
 use Rattle.start.specs.Start.{startFault, freshOf}
-use Rattle.start.proofs.Fabrics.{TabledFor, RunFor, fresh-reached, start-fabric, start-listed}
+use Rattle.fabric.proofs.Arrays.{TabledFor}
+use Rattle.start.proofs.Fabrics.{RunFor, fresh-reached, start-fabric, start-listed}
 use Rattle.picking.specs.Order.{pickOf}
 use Rattle.draining.specs.Drained.{after, sumOf, endOf}
 use Rattle.draining.proofs.Picks.{pick-moves, after-run, after-ends, after-same, after-count}

@@ -7,9 +7,10 @@ use native.Mathlib.Omega.{arith}
 use Rattle.finite.proofs.Truth.{bcase}
 use Rattle.seeds.specs.Seed.{nextSeed, lookAt}
 use Rattle.seeds.proofs.Places.{look-low}
+use Rattle.hops.specs.Tabled.{Tabled}
 use Rattle.messages.specs.declared.Record.{Record}
 use Rattle.messages.specs.Step.{stepOf}
-use Rattle.messages.specs.Runs.{Tabled, Listed, allMoves, Reached, move, successful}
+use Rattle.messages.specs.Runs.{Listed, allMoves, Reached, move, successful}
 use Rattle.messages.specs.Ready.{messagesOf, ready, allDelivered}
 use Rattle.messages.proofs.Drain.{never-more, all-delivered, one-less}
 use Rattle.messages.proofs.Ready.{ready-moves, every-delivered, messages-listed, one-ready}

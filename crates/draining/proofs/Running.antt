@@ -22,7 +22,8 @@ use Rattle.messages.specs.Ready.{allDelivered}
 use Rattle.messages.proofs.Reached.{reached-state}
 use Rattle.messages.proofs.Drain.{free-from}
 use Rattle.start.specs.Start.{startFault, freshOf}
-use Rattle.start.proofs.Fabrics.{TabledFor, RunFor, label-read, fresh-reached, start-fabric, start-listed}
+use Rattle.fabric.proofs.Arrays.{TabledFor, label-read}
+use Rattle.start.proofs.Fabrics.{RunFor, fresh-reached, start-fabric, start-listed}
 use Rattle.picking.specs.declared.Picked.{Picked}
 use Rattle.picking.specs.Order.{pickOf}
 use Rattle.picking.specs.InPlace.{pickIn}
@@ -84,7 +85,7 @@ module _ (b list : List ℕ) (fine : startFault b list ≡ Fine) where
     running-free : (span : ℕ) → span ≡ maxNodes * min (last .nodes) maxNodes → FreeFrom span (last .holders)
     running-free span e =
         let n = reached-state tabled listed (i .run) .1 .kept .nodes in
-        let m = tabled .many in
+        let m = tabled .most in
         let s : span ≡ maxNodes * nodesIn b = omega arith in
         rw s (free-from tabled listed (i .run))
 

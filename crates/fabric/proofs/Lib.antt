@@ -1,5 +1,6 @@
 pub mod Labels
 pub mod Rows
+pub mod Arrays
 pub mod Hops
 pub mod Routes
 pub mod Making

@@ -1,13 +1,12 @@
 -- The code's width is tied to N once: labels and tables made at 64 nodes are those of the cabling's own N, with zeros behind.
-use mathlib.Core.Path.{_≡_, sym, _∙_, ap, ap₂, fun-ext}
+use mathlib.Core.Path.{_≡_, sym, _∙_, ap, ap₂}
 use mathlib.Core.Bool.{Bool, true, false}
 use mathlib.Core.List.{List}
 use Prim.Native.Nat.{ℕ, min}
 use native.Mathlib.Nat.{min-eq-left}
 use native.Mathlib.Omega.{arith}
-use lib.ListN.{getD}
 use Rattle.finite.specs.Lists.{padded}
-use Rattle.finite.proofs.Lists.{tabulate-cong, padded-at}
+use Rattle.finite.proofs.Lists.{tabulate-cong}
 use Rattle.finite.proofs.Grid.{cell-low}
 use Rattle.graph.proofs.Walk.{network-wider}
 use Rattle.nodes.specs.Limits.{maxNodes}
@@ -27,6 +26,7 @@ use Rattle.fabric.specs.declared.Fabric.{Fabric}
 use Rattle.fabric.specs.declared.Made.{Made}
 use Rattle.fabric.specs.Fabric.{labelsFor, labelFor, rowsFor, fabricOf, bareFabric, fabricAfter, madeBy}
 use Rattle.fabric.proofs.Labels.{good-climbing}
+use Rattle.fabric.proofs.Arrays.{label-read}
 
 -- ---- the fabric of a good cabling
 
@@ -45,10 +45,6 @@ module _ {c : Cabling} (g : Good c) where
       entry-width maxNodes (c .nodes) (links c) (labelFor c) (network-wider (c .nodes) maxNodes few (links c) (good-network g)) (good-network g) (good-climbing g .distinct)
       _ class _ (omega arith) (omega arith) t)
 
-  -- a label is read the same from the list and from the array
-  label-read : {l : List ℕ} → l ≡ padded maxNodes (labelsFor c) → labelIn l ≡ labelFor c
-  label-read e = fun-ext (λ v. ap (λ (x : List ℕ). getD x v 0) e ∙ padded-at maxNodes (labelsFor c) v)
-
   pub fabric-made : (t l : List ℕ) (r : Tables) → t ≡ tableOf (c .pairs) → l ≡ labelsOf maxNodes (edgeOf t) (min (c .nodes) maxNodes)
       → r ≡ tablesOf maxNodes (min (c .nodes) maxNodes) (edgeOf t) (labelIn l)
       → record { nodes = c .nodes; labels = l; free = r .free; falling = r .falling } ≡ fabricOf c
@@ -57,7 +53,7 @@ module _ {c : Cabling} (g : Good c) where
       let a = labels-made t l et el in
       let b : r ≡ tablesOf maxNodes (c .nodes) (links c) (labelFor c) =
       er ∙ ap₂ (λ (e : ℕ → ℕ → Bool) (m : ℕ). tablesOf maxNodes m e (labelIn l)) (ap edgeOf et ∙ table-links g) (min-eq-left (g .few))
-      ∙ ap (tablesOf maxNodes (c .nodes) (links c)) (label-read a) in
+      ∙ ap (tablesOf maxNodes (c .nodes) (links c)) (ap labelIn a ∙ label-read c) in
       let f = ap (λ (x : Tables). x .free) b ∙ ap (padded tableSize) (rows-made true) in
       let h = ap (λ (x : Tables). x .falling) b ∙ ap (padded tableSize) (rows-made false) in
       rw (a, f, h)

@@ -1,8 +1,9 @@
 // An entry of the table, as the crate `worked` lays it out, and what is found of it: of its links image Show's lines, and where it has messages, Drain's line for
-// seed 0 and the message that is looked at first; the bytes of both images, the falling rows and the sheet, where the entry has them.
+// seed 0 and the message that is looked at first; the bytes of both images, the falling rows, hops and the sheet, where the entry has them.
 ghost use Prim.Native.Nat.{_+_, _≤_, _<_};
 use crate::inputs;
 use crate::inputs::ROOM;
+use hops::HopAnswer;
 use results::Written;
 
 // An entry: its nodes, the places of its lists, and the place behind it.
@@ -10,6 +11,7 @@ struct Entry {
     nodes: usize,
     pairs: usize,
     falling: usize,
+    hops: usize,
     links: usize,
     full: usize,
     sheet: usize,
@@ -41,14 +43,15 @@ fn list(table: &[u8], at: usize) -> &[u8] {
 
 // The entry at place `at`.
 fn entry_at(table: &[u8], at: usize) -> Entry
-    requires { ⌜ at ≤ 503 ⌝ }
+    requires { ⌜ at ≤ 531 ⌝ }
     ensures { λ r. ⌜ (at < r .next) × (r .next ≤ 4096) ⌝ }
 {
     let nodes = slices::byte(table, at) as usize;
     let pairs = at + 1;
     let free = behind(table, pairs) + nodes + 3;
     let falling = behind(table, free);
-    let links = behind(table, falling);
+    let hops = behind(table, falling);
+    let links = behind(table, hops);
     let full = behind(table, links);
     let sheet = behind(table, full);
     let messages = behind(table, sheet);
@@ -57,6 +60,7 @@ fn entry_at(table: &[u8], at: usize) -> Entry
         nodes,
         pairs,
         falling,
+        hops,
         links,
         full,
         sheet,
@@ -65,13 +69,18 @@ fn entry_at(table: &[u8], at: usize) -> Entry
     }
 }
 
-// A line of a word and bytes.
-fn tell_bytes(word: &[u8], bytes: &[u8]) {
+// A word and bytes.
+fn tell_fields(word: &[u8], bytes: &[u8]) {
     let mut out = [0u8; ROOM];
     let start = laid::put(&mut out, 0, word);
-    let fields = lines::byte_fields(&mut out, start, bytes);
-    let end = laid::byte(&mut out, fields, 10);
+    let end = lines::byte_fields(&mut out, start, bytes);
     io::write_all(1, slices::front(&out, end));
+}
+
+// A line of them.
+fn tell_bytes(word: &[u8], bytes: &[u8]) {
+    tell_fields(word, bytes);
+    io::write_all(1, b"\n");
 }
 
 fn tell_image(image: &[u8], listed: &[u8]) {
@@ -88,6 +97,45 @@ fn tell_falling(image: &[u8], listed: &[u8]) {
     if listed.len() <= image.len() {
         let from = image.len() - listed.len();
         tell_bytes(b"falling", &image[from..]);
+    }
+}
+
+// What hop was asked, and what it answers.
+fn tell_hop(asked: &[u8], answer: HopAnswer) {
+    tell_fields(b"hop", asked);
+    match answer {
+        HopAnswer::Next(node, class) => {
+            let told = [node, class];
+            tell_bytes(b"", &told);
+        }
+        HopAnswer::NoWay => {
+            io::write_all(1, b" none\n");
+        }
+        HopAnswer::Refused(_) => {
+            io::write_all(1, b" refused\n");
+        }
+    }
+}
+
+// Each hop that is listed, three bytes each: a node, a class and a destination.
+fn tell_hops(image: &[u8], listed: &[u8]) {
+    let opened = image::open(image);
+    let f = opened.fabric;
+    let labels = f.labels;
+    let free = f.free;
+    let falling = f.falling;
+    for i in 0..listed.len() / 3 {
+        let asked = slices::front(slices::rest(listed, 3 * i), 3);
+        let answer = hops::hop_within(
+            &labels,
+            &free,
+            &falling,
+            f.nodes,
+            slices::byte_at(asked, 0),
+            slices::byte_at(asked, 1),
+            slices::byte_at(asked, 2),
+        );
+        tell_hop(asked, answer);
     }
 }
 
@@ -122,6 +170,7 @@ fn tell_links(table: &[u8], e: Entry, image: &[u8]) {
 fn tell_full(table: &[u8], e: Entry, image: &[u8]) {
     tell_image(image, list(table, e.full));
     tell_falling(image, list(table, e.falling));
+    tell_hops(image, list(table, e.hops));
 }
 
 // The sheet of the links image.
@@ -148,7 +197,7 @@ fn tell_entry(table: &[u8], e: Entry, buffer: &mut [u8]) {
 // Every entry.
 pub fn tell_all(table: &[u8]) {
     let mut at = 0;
-    while at < 503 {
+    while at < 531 {
         let e = entry_at(table, at);
         let mut space = io::large_buffer();
         tell_entry(table, e, &mut space);

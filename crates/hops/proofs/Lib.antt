@@ -1,3 +1,5 @@
 pub mod Lookup
-pub mod Determined
+pub mod Cases
+pub mod Leads
 pub mod Meaning
+pub mod Determined

@@ -1,17 +1,15 @@
--- What the row call and the hop call answer, by cases: which arguments are refused, and where a row stands in its table.
-use mathlib.Core.Path.{_≡_, _∙_, ap}
+-- What the row call answers, by cases: which arguments are refused, and where a row stands in its table.
+use mathlib.Core.Path.{_≡_}
 use mathlib.Core.Bool.{true, false}
 use mathlib.Core.List.{List, []}
 use Prim.Native.Nat.{ℕ, suc, _+_, _-_, _*_, _≤_, _<_}
 use native.Mathlib.Nat.{le-refl, mul-le-mul}
 use native.Mathlib.Omega.{arith}
-use lib.ListN.{length, getD, take, drop, length-take, length-drop}
-use Rattle.finite.specs.Truth.{_&_, same, below}
+use lib.ListN.{length, take, drop, length-take, length-drop}
+use Rattle.finite.specs.Truth.{same, below}
 use Rattle.finite.proofs.Truth.{no-tf, bcase, refute, both, and-l, and-r, non-true, true-non, same-eq, same-ne, eq-same, ne-same, below-lt, below-le, lt-below, le-below}
 use Rattle.nodes.specs.Limits.{maxNodes}
-use Rattle.refusal.specs.declared.Refusal.the-variants.{Unknown}
-use Rattle.hops.specs.Row.{RowFault, few, many, free-size, falling-size, no-node, no-class, rowKnown, tableIn, rowIn, hopIn}
-use Rattle.hops.specs.declared.HopAnswer.the-variants.{Next, Refused}
+use Rattle.hops.specs.Row.{RowFault, few, many, free-size, falling-size, no-node, no-class, rowKnown, tableIn, rowIn}
 
 -- the arguments have no fault
 pub record Faultless (free falling : List ℕ) (n node class : ℕ) : Type 0 where
@@ -121,27 +119,3 @@ module _ (free falling : List ℕ) (n node class : ℕ) where
   pub row-part : (table : List ℕ) → rowKnown free falling n node class ≡ true → tableIn free falling class ≡ table
       → take (node * n + n - node * n) (drop (node * n) table) ≡ rowIn free falling n node class
   row-part table t e = let d : node * n + n - node * n ≡ n = omega arith in rw (row-known t, e, d)
-
-  -- ---- the byte at a destination
-
-  module _ (destination : ℕ) {part : List ℕ} (e : part ≡ rowIn free falling n node class) where
-    pub hop-known : destination < length part → Next (getD part destination 0) ≡ hopIn free falling n node class destination
-    unfolding hopIn
-    hop-known l =
-        bcase (rowKnown free falling n node class)
-        (λ t.
-        let k = ap length e ∙ row-length t in
-        rw (both t (lt-below {a = destination} {b = n} (omega arith)), hopIn, e))
-        (λ f. let k = ap length (e ∙ row-refused f) in absurd (omega arith))
-
-    pub hop-unknown : length part ≤ destination → Refused (Unknown 0) ≡ hopIn free falling n node class destination
-    unfolding hopIn
-    hop-unknown l =
-        rw (
-          refute (rowKnown free falling n node class & below destination n)
-              (λ t.
-              let k = ap length e ∙ row-length (and-l _ _ t) in
-              let b = below-lt _ _ (and-r _ _ t) in
-              omega arith),
-          hopIn,
-        )

@@ -1,20 +1,26 @@
--- What `row` and `hop` answer, by RULES 7.5: refused exactly when there is a fault, else the bytes of the table of the class, as stored.
+-- What `row` and `hop` answer, by RULES 7.5: refused exactly when there is a fault, else the bytes of the table of the class, as stored; and of hop each answer
+-- with its values.
 use mathlib.Core.Path.{_≡_, refl, sym, _∙_, ap}
 use mathlib.Core.Bool.{true}
 use mathlib.Core.List.{List, []}
 use mathlib.Core.Logic.{_⊎_, inl, inr, ⊎-elim, _↔_}
-use Prim.Native.Nat.{ℕ, _+_, _*_, _≤_, _<_, zero-le}
+use Prim.Native.Nat.{ℕ, _+_, _*_, _≤_, _<_}
 use native.Mathlib.Omega.{arith}
 use lib.ListN.{length, getD}
 use lib.Seq.{getD-take, getD-drop}
-use Rattle.finite.specs.Truth.{below}
-use Rattle.finite.proofs.Truth.{no-tf, bcase, below-lt, below-le}
+use Rattle.finite.specs.Truth.{same, below}
+use Rattle.finite.proofs.Truth.{no-tf, bcase, same-eq, same-ne, below-lt, below-le}
+use Rattle.lawful.specs.Turn.{labelIn}
+use Rattle.lawful.specs.Entry.{none}
 use Rattle.refusal.specs.Number.{numberOf, placeOf}
 use Rattle.refusal.specs.declared.Refusal.{Refusal}
 use Rattle.refusal.specs.declared.Refusal.the-variants.{Unknown}
-use Rattle.hops.specs.Row.{RowFault, rowKnown, tableIn, rowIn, hopIn}
-use Rattle.hops.specs.declared.HopAnswer.the-variants.{Next, Refused}
-use Rattle.hops.proofs.Lookup.{known-faultless, fault-unknown, unknown-fault, row-refused, row-known, row-length, hop-known, hop-unknown, free-table, falling-table}
+use Rattle.hops.specs.Row.{RowFault, rowKnown, tableIn, rowIn}
+use Rattle.hops.specs.Hop.{storedIn, classAfter, onwardOf, hopIn, HopFault, of-row, no-destination, labels-size, no-next, ClassThen, as-it-came, is-falling, is-free, OfHop, refused, no-way, next}
+use Rattle.hops.specs.declared.HopAnswer.{HopAnswer}
+use Rattle.hops.specs.declared.HopAnswer.the-variants.{Refused}
+use Rattle.hops.proofs.Lookup.{known-faultless, fault-unknown, unknown-fault, row-refused, row-known, row-length}
+use Rattle.hops.proofs.Cases.{class-here, class-falling, class-fall, class-free, onward-none, onward-past, onward-next, Lent, hop-known, hop-unknown, lent-or-not}
 
 module _ (free falling : List ℕ) (n node class : ℕ) where
   fine : (RowFault free falling n node class → ⊥) → rowKnown free falling n node class ≡ true
@@ -42,52 +48,140 @@ module _ (free falling : List ℕ) (n node class : ℕ) where
       → getD (rowIn free falling n node class) t 0 ≡ getD (tableIn free falling class) (node * n + t) 0
   row-byte h t l = rw (row-known free falling n node class (fine h)) (getD-take n _ t 0 l ∙ getD-drop (node * n) (tableIn free falling class) t 0)
 
-  -- ---- the byte at a destination
+  module _ (labels : List ℕ) (destination : ℕ) where
+    abbrev byte : ℕ
+    byte = storedIn free falling n node class destination
 
-  module _ (destination : ℕ) where
-    -- a fault, or a destination that is no node, is refused
-    refused : RowFault free falling n node class ⊎ (n ≤ destination) → hopIn free falling n node class destination ≡ Refused (Unknown 0)
-    refused f = sym (hop-unknown free falling n node class destination refl (short f))
-      where
-        short : RowFault free falling n node class ⊎ (n ≤ destination) → length (rowIn free falling n node class) ≤ destination
-        short (inl f) = rw (row-refused-iff .1 f) zero-le
-        short (inr l) =
-            bcase (rowKnown free falling n node class) (λ t. let e = row-length free falling n node class t in omega arith)
-            (λ f. rw (row-refused free falling n node class f) zero-le)
+    -- RULES 7.5: "It reads the byte of that row for the destination.": the one at row `node` and column `destination` of the table of the class
+    pub stored-byte : (RowFault free falling n node class → ⊥) → destination < n → byte ≡ getD (tableIn free falling class) (node * n + destination) 0
+    stored-byte h l = row-byte h destination l
 
-    -- else it is the byte of that row, as stored
-    pub hop-byte : (RowFault free falling n node class → ⊥) → destination < n
-        → hopIn free falling n node class destination ≡ Next (getD (tableIn free falling class) (node * n + destination) 0)
-    hop-byte h l =
-        let e = row-size h in
-        sym (hop-known free falling n node class destination refl (omega arith)) ∙ ap Next (row-byte h destination l)
-
-    either : (RowFault free falling n node class ⊎ (n ≤ destination)) ⊎ ((RowFault free falling n node class → ⊥) × (destination < n))
-    either =
+    -- what is lent has no fault, or that is one; then the byte may be neither a node nor 255
+    unlent : (Lent labels free falling n node class destination → ⊥) → HopFault labels free falling n node class destination
+    unlent f =
         bcase (rowKnown free falling n node class)
-        (λ t.
+        (λ r.
         bcase (below destination n)
-        (λ b. inr (λ f. no-tf t (fault-unknown free falling n node class f), below-lt _ _ b))
-        (λ b. inl (inr (below-le _ _ b))))
-        (λ f. inl (inl (unknown-fault free falling n node class f)))
+        (λ b.
+        bcase (same (length labels) n) (λ e. absurd (f (record { row = r; there = below-lt _ _ b; labelled = same-eq _ _ e })))
+        (λ e. labels-size (same-ne _ _ e)))
+        (λ b. no-destination (below-le _ _ b)))
+        (λ r. of-row (unknown-fault free falling n node class r))
 
-    -- refused exactly when there is a fault or the destination is no node
-    pub hop-refused-iff : (hopIn free falling n node class destination ≡ Refused (Unknown 0)) ↔ (RowFault free falling n node class ⊎ (n ≤ destination))
-    hop-refused-iff = (
-      λ e. ⊎-elim (λ f. f) (λ p. let b = hop-byte (p .0) (p .1) in let z : _≡_ {A = ℕ} 0 1 = cc in absurd (omega arith)) either,
-      refused,
-    )
+    lent : (HopFault labels free falling n node class destination → ⊥) → Lent labels free falling n node class destination
+    lent h = lent-or-not labels free falling n node class destination (λ k. k) (λ f. absurd (h (unlent f)))
 
-    -- and a refusal is number 10 at place 0
-    pub hop-refusal : (r : Refusal) → hopIn free falling n node class destination ≡ Refused r → (numberOf r ≡ 10) × (placeOf r ≡ 0)
-    hop-refusal r e =
-        ⊎-elim
-        (λ f. let p = refused f in let q : r ≡ Unknown 0 = cc in (ap numberOf q, ap placeOf q))
-        (λ p. let b = hop-byte (p .0) (p .1) in let z : _≡_ {A = ℕ} 0 1 = cc in absurd (omega arith)) either
+    sound : Lent labels free falling n node class destination → (byte ≡ none) ⊎ (byte < n) → HopFault labels free falling n node class destination → ⊥
+    sound k b (of-row f) = no-tf (k .row) (fault-unknown free falling n node class f)
+    sound k b (no-destination l) = let t = k .there in omega arith
+    sound k b (labels-size d) = d (k .labelled)
+    sound k b (no-next l d) = ⊎-elim d (λ k. omega arith) b
 
--- RULES 5.1: "free (class 0) [..] and falling (class 1)"
-pub class-free : (free falling : List ℕ) → tableIn free falling 0 ≡ free
-class-free free falling = free-table free falling 0 refl
+    faulty-hop : HopFault labels free falling n node class destination → hopIn labels free falling n node class destination ≡ Refused (Unknown 0)
+    faulty-hop f =
+        bcase (below byte n) (λ b. unknown (λ k. sound k (inr (below-lt _ _ b)) f))
+        (λ b.
+        bcase (same byte none) (λ e. unknown (λ k. sound k (inl (same-eq _ _ e)) f))
+        (λ e.
+        lent-or-not labels free falling n node class destination
+        (λ k. hop-known labels free falling n node class destination k ∙ onward-past labels n node class destination byte (same-ne _ _ e) (below-le _ _ b))
+        unknown))
+      where
+        unknown : (Lent labels free falling n node class destination → ⊥) → hopIn labels free falling n node class destination ≡ Refused (Unknown 0)
+        unknown = hop-unknown labels free falling n node class destination
 
-pub class-falling : (free falling : List ℕ) → tableIn free falling 1 ≡ falling
-class-falling free falling = falling-table free falling 1 (λ e. omega arith)
+    node-low : (HopFault labels free falling n node class destination → ⊥) → (byte ≡ none → ⊥) → byte < n
+    node-low h d = bcase (below byte n) (below-lt _ _) (λ f. absurd (h (no-next (below-le _ _ f) d)))
+
+    class-low : (HopFault labels free falling n node class destination → ⊥) → class ≤ 1
+    class-low h = known-faultless free falling n node class (fine (λ f. h (of-row f))) .class-low
+
+    -- ---- the class
+
+    class-is : class ≤ 1 → ClassThen labels node class destination byte (classAfter labels node class destination byte)
+    class-is l =
+        bcase (same node destination) (λ t. let e = same-eq _ _ t in rw (class-here labels node class destination byte e) (as-it-came e))
+        (λ t.
+        let away = same-ne _ _ t in
+        bcase (same class 1) (λ c. let e = same-eq _ _ c in rw (class-falling labels node class destination byte away e) (is-falling away (inl e)))
+        (λ c.
+        let d = same-ne _ _ c in
+        bcase (below (labelIn labels byte) (labelIn labels node))
+        (λ b. let k = below-lt _ _ b in rw (class-fall labels node class destination byte away k) (is-falling away (inr k)))
+        (λ b. let k = below-le _ _ b in rw (class-free labels node class destination byte away d k) (is-free away (omega arith) k))))
+
+    class-then : {then : ℕ} → ClassThen labels node class destination byte then → then ≡ classAfter labels node class destination byte
+    class-then (as-it-came e) = sym (class-here labels node class destination byte e)
+    class-then (is-falling away (inl e)) = sym (class-falling labels node class destination byte away e)
+    class-then (is-falling away (inr l)) = sym (class-fall labels node class destination byte away l)
+    class-then (is-free away e l) = sym (class-free labels node class destination byte away (λ q. omega arith) l)
+
+    -- ---- each answer, with its number and its values, exactly when RULES 7.5 and RULES 9.1 say so
+
+    answer-is : OfHop labels free falling n node class destination (hopIn labels free falling n node class destination)
+    answer-is =
+        lent-or-not labels free falling n node class destination
+        (λ k.
+        bcase (same byte none)
+        (λ e.
+        let q = same-eq _ _ e in
+        rw (hop-known labels free falling n node class destination k ∙ onward-none labels n node class destination byte q) (no-way (sound k (inl q)) q))
+        (λ e.
+        let d = same-ne _ _ e in
+        bcase (below byte n)
+        (λ b.
+        let l = below-lt _ _ b in
+        let h = sound k (inr l) in
+        rw (hop-known labels free falling n node class destination k ∙ onward-next labels n node class destination byte d l refl) (next h d (class-is (class-low h))))
+        (λ b. let f = no-next (below-le _ _ b) d in rw (faulty-hop f) (refused f))))
+        (λ k. let f = unlent k in rw (faulty-hop f) (refused f))
+
+    answer-from : {a : HopAnswer} → OfHop labels free falling n node class destination a → hopIn labels free falling n node class destination ≡ a
+    answer-from (refused f) = faulty-hop f
+    answer-from (no-way h e) = hop-known labels free falling n node class destination (lent h) ∙ onward-none labels n node class destination byte e
+    answer-from (next h d c) = hop-known labels free falling n node class destination (lent h) ∙ onward-next labels n node class destination byte d (node-low h d) (class-then c)
+
+    pub hop-means : (a : HopAnswer) → (hopIn labels free falling n node class destination ≡ a) ↔ OfHop labels free falling n node class destination a
+    hop-means a = (λ e. rw (← e) answer-is, answer-from)
+
+    -- a refusal is number 10 at place 0
+    pub hop-refusal : (r : Refusal) → hopIn labels free falling n node class destination ≡ Refused r → (numberOf r ≡ 10) × (placeOf r ≡ 0)
+    hop-refusal r e = of-number r (hop-means (Refused r) .0 e)
+      where
+        of-number : (r : Refusal) → OfHop labels free falling n node class destination (Refused r) → (numberOf r ≡ 10) × (placeOf r ≡ 0)
+        of-number _ (refused f) = (refl, refl)
+
+    pub hop-refused-iff : (hopIn labels free falling n node class destination ≡ Refused (Unknown 0)) ↔ HopFault labels free falling n node class destination
+    hop-refused-iff = (λ e. fault (hop-means (Refused (Unknown 0)) .0 e), faulty-hop)
+      where
+        fault : OfHop labels free falling n node class destination (Refused (Unknown 0)) → HopFault labels free falling n node class destination
+        fault (refused f) = f
+
+-- RULES 7.5: "Of the bytes of the tables hop looks at that one alone.": other tables of the same lengths with the same byte there give the same answer
+module _ (labels : List ℕ) (n node class destination : ℕ) where
+  abbrev byte-there : List ℕ → List ℕ → ℕ
+  byte-there free falling = getD (tableIn free falling class) (node * n + destination) 0
+
+  hop-there : (free falling : List ℕ) → Lent labels free falling n node class destination
+      → hopIn labels free falling n node class destination ≡ onwardOf labels n node class destination (byte-there free falling)
+  hop-there free falling k =
+      let sound : RowFault free falling n node class → ⊥ = λ f. no-tf (k .row) (fault-unknown free falling n node class f) in
+      hop-known labels free falling n node class destination k
+      ∙ ap (onwardOf labels n node class destination) (stored-byte free falling n node class labels destination sound (k .there))
+
+  pub hop-one-byte : (free falling free-2 falling-2 : List ℕ) → length free-2 ≡ length free → length falling-2 ≡ length falling
+      → byte-there free-2 falling-2 ≡ byte-there free falling
+      → hopIn labels free-2 falling-2 n node class destination ≡ hopIn labels free falling n node class destination
+  unfolding rowKnown
+  hop-one-byte free falling free-2 falling-2 p q e =
+      lent-or-not labels free falling n node class destination
+      (λ k.
+      hop-there free-2 falling-2 (record { row = alike ∙ k .row; there = k .there; labelled = k .labelled })
+      ∙ ap (onwardOf labels n node class destination) e ∙ sym (hop-there free falling k))
+      (λ f.
+      hop-unknown labels free-2 falling-2 n node class destination
+      (λ k. f (record { row = sym alike ∙ k .row; there = k .there; labelled = k .labelled }))
+      ∙ sym (hop-unknown labels free falling n node class destination f))
+    where
+      alike : rowKnown free-2 falling-2 n node class ≡ rowKnown free falling n node class
+      alike = rw (p, q)

@@ -1,14 +1,11 @@
--- RULES 7.5: what the row call and the hop call answer. Their tables are any two lists of bytes.
+-- RULES 7.5: what the row call answers. Its tables are any two lists of bytes.
 use mathlib.Core.Path.{_≡_}
 use mathlib.Core.Bool.{Bool, true, false}
 use mathlib.Core.List.{List, []}
 use Prim.Native.Nat.{ℕ, _*_, _≤_, _<_}
-use lib.ListN.{length, getD, take, drop}
+use lib.ListN.{length, take, drop}
 use Rattle.finite.specs.Truth.{_&_, non, same, below}
 use Rattle.nodes.specs.Limits.{maxNodes}
-use Rattle.refusal.specs.declared.Refusal.the-variants.{Unknown}
-use Rattle.hops.specs.declared.HopAnswer.{HopAnswer}
-use Rattle.hops.specs.declared.HopAnswer.the-variants.{Next, Refused}
 
 -- refusal 10, RULES 9.1: "N not 2 to 64, either table not N × N long, a node [..] ≥ N, class above 1"
 pub data RowFault (free falling : List ℕ) (n node class : ℕ) : Type 0 where
@@ -32,11 +29,3 @@ tableIn free falling class = elim (same class 0) [ true ↦ free | false ↦ fal
 unfoldable pub rowIn : List ℕ → List ℕ → ℕ → ℕ → ℕ → List ℕ
 rowIn free falling n node class =
     elim (rowKnown free falling n node class) [ true ↦ take n (drop (node * n) (tableIn free falling class)) | false ↦ [] ]
-
--- RULES 7.5: "Hop takes a destination too and answers the byte of that row there, as it is stored."; refusal 10, RULES 9.1, for a "destination ≥ N" too
-unfoldable pub hopIn : List ℕ → List ℕ → ℕ → ℕ → ℕ → ℕ → HopAnswer
-hopIn free falling n node class destination =
-    elim (rowKnown free falling n node class & below destination n) [
-      | true ↦ Next (getD (rowIn free falling n node class) destination 0)
-      | false ↦ Refused (Unknown 0)
-    ]

@@ -1,5 +1,5 @@
 -- Routes: each hop that follows the entries lowers the distance by one, so a route arrives and has the shortest lawful length.
-use mathlib.Core.Path.{_≡_, refl, sym, _∙_, ap, ap₂}
+use mathlib.Core.Path.{_≡_, refl, sym, _∙_, ap}
 use mathlib.Core.Bool.{Bool, true, false}
 use mathlib.Core.List.{List, [], _∷_}
 use mathlib.Core.Logic.{_↔_, _⊎_, inl, inr}
@@ -105,25 +105,6 @@ module _ (edge : ℕ → ℕ → Bool) (label : ℕ → ℕ) (next : Bool → �
       → follow edge label next t (suc k) c v ≡ next c v ∷ follow edge label next t k (freeAfter edge label c v (next c v)) (next c v)
   unfolding follow
   follow-there k c v d = rw (ne-same d, follow)
-
--- two ways of following lead along the same nodes where they agree on all that is met: P holds of each class and node on the way
-pub follow-agree : (edge link : ℕ → ℕ → Bool) (label mark : ℕ → ℕ) (next step : Bool → ℕ → ℕ) (t : ℕ) (P : Bool → ℕ → Type 0)
-    → ((c : Bool) (v : ℕ) → P c v → (v ≡ t → ⊥)
-    → (next c v ≡ step c v) × (freeAfter edge label c v (next c v) ≡ freeAfter link mark c v (next c v)) × P (freeAfter edge label c v (next c v)) (next c v))
-    → (k : ℕ) (c : Bool) (v : ℕ) → P c v → follow edge label next t k c v ≡ follow link mark step t k c v
-unfolding follow
-follow-agree edge link label mark next step t P agree zero c v p = refl
-follow-agree edge link label mark next step t P agree (suc k) c v p =
-    bcase (same v t) (λ e. rw (e, follow))
-    (λ e.
-    let d = same-ne v t e in
-    let (x, y, q) = agree c v p d in
-    let on : Bool → ℕ → List ℕ = follow link mark step t k in
-    follow-there edge label next t k c v d
-    ∙ ap₂ _∷_ x
-    (follow-agree edge link label mark next step t P agree k _ _ q ∙ ap (λ (b : Bool). on b (next c v)) y
-    ∙ ap (λ (u : ℕ). on (freeAfter link mark c v u) u) x)
-    ∙ sym (follow-there link mark step t k c v d))
 
 -- a message to its own node has no hops to go
 pub route-self : (n : ℕ) (edge : ℕ → ℕ → Bool) (label : ℕ → ℕ) (v : ℕ) → routeOf n edge label v v ≡ []

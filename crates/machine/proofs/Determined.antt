@@ -29,9 +29,9 @@ step-in-determined span r m x y a b p q =
     )
 
 -- of `is_ready`
-pub ready-determined : (nodes : ℕ) (free falling holders : List ℕ) (head target class mark : ℕ) (x y : Bool) → x ≡ readyIn nodes free falling holders head target class mark
-    → y ≡ readyIn nodes free falling holders head target class mark → x ≡ y
-ready-determined nodes free falling holders head target class mark x y p q = p ∙ sym q
+pub ready-determined : (nodes : ℕ) (labels free falling holders : List ℕ) (head target class mark : ℕ) (x y : Bool) → x ≡ readyIn nodes labels free falling holders head target class mark
+    → y ≡ readyIn nodes labels free falling holders head target class mark → x ≡ y
+ready-determined nodes labels free falling holders head target class mark x y p q = p ∙ sym q
 
 pub all-delivered-in-determined : (messages : ℕ) (delivered : List ℕ) (x y : Bool) → x ≡ all (min messages maxMessages) (λ m. non (same (getD delivered m 0) 0))
     → y ≡ all (min messages maxMessages) (λ m. non (same (getD delivered m 0) 0)) → x ≡ y

@@ -1,22 +1,25 @@
 -- A move in place: it is a move of the record where every channel from the bound on is free; and each way through its code is a case of it.
-use mathlib.Core.Path.{_≡_, sym, _∙_, ap}
+use mathlib.Core.Path.{_≡_, sym, _∙_, ap, ap₂}
 use mathlib.Core.Bool.{true, false}
 use mathlib.Core.List.{List}
 use Prim.Native.Nat.{ℕ, suc, _+_, _-_, _≤_, _<_}
 use native.Mathlib.Numerals.{add-one}
 use native.Mathlib.Omega.{arith}
 use lib.ListN.{length, getD, set, List·getD-eq-default}
-use Rattle.finite.specs.Truth.{non, same, below}
+use Rattle.finite.specs.Truth.{below}
 use Rattle.finite.specs.Lists.{tabulate}
 use Rattle.finite.proofs.Truth.{no-tf, bcase, refute, both, and-l, and-r, non-true, true-non, same-eq, eq-same, below-lt, below-le, lt-below, le-below}
 use Rattle.finite.proofs.Lists.{tabulate-cong}
+use Rattle.hops.specs.declared.HopAnswer.{HopAnswer}
+use Rattle.hops.specs.declared.HopAnswer.the-variants.{Next}
+use Rattle.hops.specs.Hop.{hopWithin, hasNext, nextIn, classIn}
 use Rattle.messages.specs.Sizes.{maxPairs}
 use Rattle.messages.specs.declared.Record.{Record}
 use Rattle.messages.specs.declared.Answer.the-variants.{Already, Moved, Blocked, Delivered}
-use Rattle.messages.specs.Step.{head, target, isFalling, isDelivered, nextIn, nextNode, channel, nextChannel, holder, classIn, counted, released, moved, arrived, with, refusedOf, stepOf}
+use Rattle.messages.specs.Step.{head, target, class, isDelivered, aheadOf, channel, nextChannel, holder, counted, released, moved, arrived, with, refusedOf, stepOf}
 use Rattle.messages.specs.Tells.{FreeFrom}
 use Rattle.messages.specs.Ready.{messagesOf}
-use Rattle.messages.proofs.Moves.{there, step-none, step-already, step-delivered, step-blocked, step-moved}
+use Rattle.messages.proofs.Moves.{there, step-none, step-already, step-delivered, step-astray, step-blocked, step-moved}
 use Rattle.messages.proofs.Changes.{released-other}
 use Rattle.machine.specs.InPlace.{packed, leftIn, givenBack, arriving, arrivedIn, stepIn}
 
@@ -97,37 +100,44 @@ module _ (span : ℕ) (r : Record) (m : ℕ) where
           let now = arrives (both (there r m low) (both (true-non d) (eq-same (sym here ∙ e ∙ goal)))) in
           cc
 
-      module _ (apart : at ≡ to → ⊥) {class next c by : ℕ} (sort : class ≡ getD (r .classes) m 0)
-          (hop : next ≡ nextIn (r .nodes) (r .free) (r .falling) at to class) (way : c ≡ channel at next)
-          (who : by ≡ getD (r .holders) c 0) where
+      module _ (apart : at ≡ to → ⊥) {kind : ℕ} {ahead : HopAnswer} (as-class : kind ≡ class r m)
+          (asks : ahead ≡ hopWithin (r .labels) (r .free) (r .falling) (r .nodes) at kind to) where
         not-there : head r m ≡ target r m → ⊥
         not-there e = apart (here ∙ e ∙ sym goal)
 
         onward : stepIn span r m ≡ stepOf r m
         onward = not-arriving (λ a b. not-there)
 
-        hop-is : next ≡ nextNode r m
-        unfolding nextNode
-        hop-is = cc
+        ahead-is : ahead ≡ aheadOf r m
+        unfolding aheadOf
+        ahead-is = cc
 
-        way-is : c ≡ nextChannel r m
-        way-is = let n = hop-is in cc
+        pub astray-in : hasNext ahead ≡ false → refusedOf r ≡ stepIn span r m
+        astray-in a = sym (onward ∙ step-astray r m low d not-there (ap hasNext (sym ahead-is) ∙ a))
 
-        who-is : by ≡ holder r (nextChannel r m)
-        who-is = let n = way-is in cc
+        module _ {next then c by : ℕ} (found : ahead ≡ Next next then) (way : c ≡ channel at next) (who : by ≡ getD (r .holders) c 0) where
+          answered : aheadOf r m ≡ Next next then
+          answered = sym ahead-is ∙ found
 
-        pub blocked-in : (by ≡ 0 → ⊥) → with r (Blocked (by - 1)) ≡ stepIn span r m
-        blocked-in h =
-            ap (λ (x : ℕ). with r (Blocked (x - 1))) who-is ∙ sym (onward ∙ step-blocked r m low d not-there (λ q. h (who-is ∙ q)))
+          way-is : c ≡ nextChannel r m
+          way-is = way ∙ ap₂ channel here (sym (ap nextIn answered))
 
-        pub moved-in : {moves then : ℕ} {heads classes holders : List ℕ} → by ≡ 0 → moves ≡ counted (r .moves)
-            → then ≡ classIn (r .labels) (non (same class 0)) at next
-            → heads ≡ set (r .heads) m next → classes ≡ set (r .classes) m then → holders ≡ set (r .holders) c (m + 1)
-            → with (packed (r .nodes) (r .messages) moves (r .labels) (r .free) (r .falling) (r .targets) heads classes (r .delivered) holders) Moved ≡ stepIn span r m
-        unfolding moved isFalling
-        moved-in z count fall h k held =
-            let one = add-one m in
-            let n = hop-is in
-            let w = way-is in
-            let after = onward ∙ step-moved r m low d not-there (sym who-is ∙ z) in
-            cc
+          who-is : by ≡ holder r (nextChannel r m)
+          who-is = who ∙ ap (holder r) way-is
+
+          pub blocked-in : (by ≡ 0 → ⊥) → with r (Blocked (by - 1)) ≡ stepIn span r m
+          blocked-in h =
+              ap (λ (x : ℕ). with r (Blocked (x - 1))) who-is
+              ∙ sym (onward ∙ step-blocked r m low d not-there (ap hasNext answered) (λ q. h (who-is ∙ q)))
+
+          pub moved-in : {moves : ℕ} {heads classes holders : List ℕ} → by ≡ 0 → moves ≡ counted (r .moves)
+              → heads ≡ set (r .heads) m next → classes ≡ set (r .classes) m then → holders ≡ set (r .holders) c (m + 1)
+              → with (packed (r .nodes) (r .messages) moves (r .labels) (r .free) (r .falling) (r .targets) heads classes (r .delivered) holders) Moved ≡ stepIn span r m
+          unfolding moved
+          moved-in z count h k held =
+              let one = add-one m in
+              let n = ap nextIn answered in
+              let f = ap classIn answered in
+              let w = way-is in
+              let after = onward ∙ step-moved r m low d not-there (ap hasNext answered) (sym who-is ∙ z) in
+              cc

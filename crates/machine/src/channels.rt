@@ -1,9 +1,17 @@
-// The holders of the channels, one a channel: past the end none is held, and a store changes nothing.
+// Channels and their holders, one a channel: past the end none is held, and a store changes nothing.
 ghost use mathlib.Core.Path.{_≡_};
 ghost use Prim.Native.Nat.{min};
 ghost use lib.ListN.{getD, set};
-ghost use Rattle.messages.specs.Step.{released};
+ghost use Rattle.messages.specs.Step.{channel, released};
 ghost use Rattle.machine.specs.InPlace.{givenBack};
+use nodes::MAX_NODES;
+
+// The number of the channel from a to b: 64 a + b.
+pub fn channel(a: u8, b: u8) -> usize
+    ensures { λ r. ⌜ r ≡ channel a b ⌝ }
+{
+    MAX_NODES * (a as usize) + (b as usize)
+}
 
 // The holder of channel c.
 pub fn held(holders: &[u16], c: usize) -> u16

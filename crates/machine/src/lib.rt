@@ -4,14 +4,15 @@ ghost use Prim.Native.Nat.{min};
 ghost use lib.ListN.{getD};
 ghost use Rattle.finite.specs.Truth.{non, same};
 ghost use Rattle.finite.specs.Search.{all};
+ghost use Rattle.hops.specs.Hop.{hopWithin};
 ghost use Rattle.messages.specs.Sizes.{maxMessages};
 ghost use Rattle.messages.specs.Step.{counted, with};
 ghost use Rattle.messages.specs.Ready.{readyIn};
 ghost use Rattle.machine.specs.InPlace.{packed, stepIn};
 
-mod ahead; // ahead.rt: what is ahead of a message
 mod channels; // channels.rt: who holds a channel
 
+use hops::HopAnswer;
 use messages::Answer;
 use messages::MAX_MESSAGES;
 use refusal::Refusal;
@@ -31,6 +32,36 @@ fn count(moves: usize) -> usize
     } else {
         18446744073709551615
     }
+}
+
+// Is a message marked among these bytes, one a message?
+fn marked(bytes: &[u8], message: usize) -> bool
+    ensures { λ r. ⌜ r ≡ non (same (getD (now (bytes .entry)) message 0) 0) ⌝ }
+{
+    slices::byte(bytes, message) != 0
+}
+
+// What hop answers a message with this head, class and target.
+fn ahead<'a>(
+    nodes: usize,
+    labels: &'a [u8],
+    free: &'a [u8],
+    falling: &'a [u8],
+    head: u8,
+    class: u8,
+    target: u8,
+) -> HopAnswer
+    ensures { λ r. ⌜ r ≡ hopWithin (now (labels .entry)) (now (free .entry)) (now (falling .entry)) nodes head class target ⌝ }
+{
+    hops::hop_within(
+        labels,
+        free,
+        falling,
+        nodes,
+        head as usize,
+        class as usize,
+        target as usize,
+    )
 }
 
 // One move of a message, in arrays that stay in their place. A message that arrives gives back only channels below `span`.
@@ -57,7 +88,7 @@ pub fn step_in<'a>(
             answer: Answer::Refused(Refusal::Unknown(0)),
         };
     }
-    if ahead::marked(delivered, message) {
+    if marked(delivered, message) {
         return Answered {
             moves,
             answer: Answer::Already,
@@ -74,41 +105,44 @@ pub fn step_in<'a>(
         };
     }
     let class = slices::byte(classes, message);
-    let next = ahead::next_in(nodes, free, falling, head, target, class);
-    let c = ahead::channel(head, next);
-    let holder = channels::held(holders, c) as usize;
-    if holder != 0 {
-        let by = holder - 1;
+    let found = ahead(nodes, labels, free, falling, head, class, target);
+    if let HopAnswer::Next(next, then) = found {
+        let c = channels::channel(head, next);
+        let holder = channels::held(holders, c) as usize;
+        if holder != 0 {
+            let by = holder - 1;
+            return Answered {
+                moves,
+                answer: Answer::Blocked(by),
+            };
+        }
+        channels::hold(holders, c, (message + 1) as u16);
+        slices::put(heads, message, next);
+        slices::put(classes, message, then);
         return Answered {
-            moves,
-            answer: Answer::Blocked(by),
+            moves: count(moves),
+            answer: Answer::Moved,
         };
     }
-    channels::hold(holders, c, (message + 1) as u16);
-    slices::put(heads, message, next);
-    slices::put(
-        classes,
-        message,
-        ahead::class_after(labels, class, head, next),
-    );
     Answered {
-        moves: count(moves),
-        answer: Answer::Moved,
+        moves,
+        answer: Answer::Refused(Refusal::Unknown(0)),
     }
 }
 
-// Is a message with this head, target, class and mark neither delivered nor blocked?
-pub fn is_ready(
+// Would a move of a message with this head, target, class and mark succeed?
+pub fn is_ready<'a>(
     nodes: usize,
-    free: &[u8],
-    falling: &[u8],
+    labels: &'a [u8],
+    free: &'a [u8],
+    falling: &'a [u8],
     holders: &[u16],
     head: u8,
     target: u8,
     class: u8,
     mark: u8,
 ) -> bool
-    ensures { λ r. ⌜ r ≡ readyIn nodes (now (free .entry)) (now (falling .entry)) (now (holders .entry)) head target class mark ⌝ }
+    ensures { λ r. ⌜ r ≡ readyIn nodes (now (labels .entry)) (now (free .entry)) (now (falling .entry)) (now (holders .entry)) head target class mark ⌝ }
 {
     if mark != 0 {
         return false;
@@ -116,8 +150,11 @@ pub fn is_ready(
     if head == target {
         return true;
     }
-    let next = ahead::next_in(nodes, free, falling, head, target, class);
-    channels::held(holders, ahead::channel(head, next)) == 0
+    let found = ahead(nodes, labels, free, falling, head, class, target);
+    if let HopAnswer::Next(next, then) = found {
+        return channels::held(holders, channels::channel(head, next)) == 0;
+    }
+    false
 }
 
 // Is every message delivered, by their marks?
@@ -125,7 +162,7 @@ pub fn all_delivered_in(messages: usize, delivered: &[u8]) -> bool
     ensures { λ r. ⌜ r ≡ all (min messages maxMessages) (λ m. non (same (getD (now (delivered .entry)) m 0) 0)) ⌝ }
 {
     for m in 0..few(messages) {
-        if !ahead::marked(delivered, m) {
+        if !marked(delivered, m) {
             return false;
         }
     }

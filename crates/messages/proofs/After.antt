@@ -5,26 +5,25 @@ use mathlib.Core.List.{List, _∷_}
 use Prim.Native.Nat.{ℕ, suc, _<_}
 use native.Mathlib.Omega.{arith}
 use lib.ListN.{length, getD, length-set}
-use Rattle.finite.specs.Truth.{_or_, non, same}
-use Rattle.finite.proofs.Truth.{bcase, false-non, true-non, non-true, or-l, or-false, same-eq, same-ne, eq-same, ne-same, same-refl}
+use Rattle.finite.specs.Truth.{_or_, same}
+use Rattle.finite.proofs.Truth.{bcase, or-l, or-false, same-eq, same-ne, eq-same, ne-same}
 use Rattle.finite.proofs.Lists.{tabulate-length}
-use Rattle.lawful.specs.Entry.{freeAfter}
+use Rattle.lawful.specs.Entry.{entry, freeAfter}
 use Rattle.lawful.specs.Turn.{labelIn}
-use Rattle.lawful.proofs.Run.{Hop, rise, fall, rises-lt, falls-lt}
 use Rattle.claims.specs.Claims.{Progress, Keeping, holds, wanted, taking, finishing, made}
 use Rattle.claims.proofs.Counting.{made-le}
 use Rattle.claims.proofs.Taking.{taken-here, taken-there, taking-done, taking-made, taking-other, taking-kept, taking-lawful}
 use Rattle.claims.proofs.Finishing.{done-here, done-there, finishing-made, finishing-other, finishing-free, finishing-lawful}
+use Rattle.hops.specs.Tabled.{classOf, Tabled}
 use Rattle.messages.specs.Sizes.{maxMessages, maxPairs}
 use Rattle.messages.specs.declared.Record.{Record}
-use Rattle.messages.specs.Step.{head, target, isFalling, isDelivered, nextNode, nextChannel, holder, classAfter, counted, released, moved, arrived}
-use Rattle.messages.specs.Fresh.{sourceIn}
-use Rattle.messages.specs.Runs.{Tabled, Listed, messagesIn, routeIn, itineraryIn}
+use Rattle.messages.specs.Step.{head, target, class, isDelivered, nextClass, nextChannel, holder, counted, released, moved, arrived}
+use Rattle.messages.specs.Fresh.{sourceIn, targetIn}
+use Rattle.messages.specs.Runs.{Listed, messagesIn, routeIn, itineraryIn}
 use Rattle.messages.specs.Tells.{keeps, Says}
-use Rattle.messages.proofs.Moves.{class-fall, class-free}
 use Rattle.messages.proofs.Changes.{released-here, released-other, moved-head, moved-heads, moved-class, moved-classes, moved-holder, moved-holders, arrived-mark, arrived-marks, arrived-holders}
-use Rattle.messages.proofs.State.{Kept, OnRoute, State, few-messages}
-use Rattle.messages.proofs.Hops.{more-to-take, next-hop, next-way, next-wanted, next-inside}
+use Rattle.messages.proofs.State.{Kept, isFree, free-is, OnRoute, State, few-messages}
+use Rattle.messages.proofs.Hops.{more-to-take, next-class, next-way, next-wanted, next-inside}
 use Rattle.messages.proofs.Total.{all-moves-small, all-moves-whole}
 
 -- nothing is given back on the way
@@ -63,20 +62,6 @@ module _ {n : ℕ} {labels free falling list : List ℕ} {r : Record} (m : ℕ) 
     delivered-size = length-set (r .delivered) m _ ∙ kept .delivered-size;
     holders-size = tabulate-length maxPairs _;
   }
-
--- the class that the machine writes is the class after the hop
-hop-class : (edge : ℕ → ℕ → Bool) (labels : List ℕ) (r : Record) (m : ℕ) → r .labels ≡ labels → {c d : Bool} → c ≡ non (isFalling r m)
-    → Hop edge (labelIn labels) c (head r m) d (nextNode r m) → non (non (same (classAfter r m) 0)) ≡ d
-hop-class edge labels r m e p (rise h) =
-    let up = rises-lt edge (labelIn labels) _ _ h in
-    let a : labelIn (r .labels) (head r m) ≡ labelIn labels (head r m) = ap (λ (l : List ℕ). labelIn l (head r m)) e in
-    let b : labelIn (r .labels) (nextNode r m) ≡ labelIn labels (nextNode r m) = ap (λ (l : List ℕ). labelIn l (nextNode r m)) e in
-    ap (λ (x : ℕ). non (non (same x 0))) (class-free _ _ _ _ (non-true _ (sym p)) (omega arith)) ∙ true-non (false-non (same-refl 0))
-hop-class edge labels r m e p (fall h) =
-    let down = falls-lt edge (labelIn labels) _ _ h in
-    let a : labelIn (r .labels) (head r m) ≡ labelIn labels (head r m) = ap (λ (l : List ℕ). labelIn l (head r m)) e in
-    let b : labelIn (r .labels) (nextNode r m) ≡ labelIn labels (nextNode r m) = ap (λ (l : List ℕ). labelIn l (nextNode r m)) e in
-    ap (λ (x : ℕ). non (non (same x 0))) (class-fall _ _ _ _ (omega arith)) ∙ false-non (true-non (ne-same (λ q. omega arith)))
 
 module _ {n : ℕ} {edge : ℕ → ℕ → Bool} {labels free falling list : List ℕ} (tabled : Tabled n edge labels free falling) (listed : Listed n list)
     {r : Record} {s : Progress} (state : State n edge labels free falling list r s) (m : ℕ) (low : m < messagesIn list) (fresh : s .done m ≡ false) where
@@ -170,21 +155,31 @@ module _ {n : ℕ} {edge : ℕ → ℕ → Bool} {labels free falling list : Lis
       count = moved-count;
     }
 
-    moved-class-is : non (isFalling (moved r m) m) ≡ freeAfter edge (labelIn labels) (non (isFalling r m)) (head r m) (nextNode r m)
-    moved-class-is =
-        ap non (moved-class r m (placed (state .kept .classes-size)))
-        ∙ hop-class edge labels r m (state .kept .labels-are) refl (next-hop tabled listed state m low d)
+    -- the class that the machine writes is the class after the hop
+    moved-class-is : class (moved r m) m ≡ nextClass r m
+    moved-class-is = moved-class r m (placed (state .kept .classes-size))
 
-    moved-way : (c : ℕ) → c < k → OnIt c (ahead .taken c) (non (isFalling (moved r m) c)) (head (moved r m) c)
+    moved-free : isFree (moved r m) m ≡ freeAfter edge (labelIn labels) (isFree r m) (head r m) (entry n edge (labelIn labels) (targetIn list m) (isFree r m) (head r m))
+    moved-free = free-is (moved r m) m (moved-class-is ∙ next-class tabled listed state m low d)
+
+    moved-same : (c : ℕ) → (m ≡ c → ⊥) → isFree (moved r m) c ≡ isFree r c
+    unfolding isFree
+    moved-same c e = ap (λ (x : ℕ). same x 0) (moved-classes r m c e)
+
+    moved-way : (c : ℕ) → c < k → OnIt c (ahead .taken c) (isFree (moved r m) c) (head (moved r m) c)
     moved-way =
-        by-message (λ c. c < k → OnIt c (ahead .taken c) (non (isFalling (moved r m) c)) (head (moved r m) c))
-        (λ l.
-        rw (taken-here s m, moved-class-is, moved-head r m (placed (state .kept .heads-size)))
-        (next-way tabled listed state m low d))
-        (λ c e l. rw (taken-there s m c e, moved-classes r m c e, moved-heads r m c e) (state .way c l))
+        by-message (λ c. c < k → OnIt c (ahead .taken c) (isFree (moved r m) c) (head (moved r m) c))
+        (λ l. rw (taken-here s m, moved-free, moved-head r m (placed (state .kept .heads-size))) (next-way tabled listed state m low d))
+        (λ c e l. rw (taken-there s m c e, moved-same c e, moved-heads r m c e) (state .way c l))
+
+    moved-classed : (c : ℕ) → c < k → class (moved r m) c ≡ classOf (isFree (moved r m) c)
+    moved-classed =
+        by-message (λ c. c < k → class (moved r m) c ≡ classOf (isFree (moved r m) c))
+        (λ l. moved-class-is ∙ next-class tabled listed state m low d ∙ ap classOf (sym moved-free))
+        (λ c e l. moved-classes r m c e ∙ state .classed c l ∙ ap classOf (sym (moved-same c e)))
 
     pub moved-state : State n edge labels free falling list (moved r m) (taking s m)
-    moved-state = record { says = moved-says; kept = moved-kept m (state .kept); way = moved-way }
+    moved-state = record { says = moved-says; kept = moved-kept m (state .kept); way = moved-way; classed = moved-classed }
 
   -- ---- it is delivered
 
@@ -236,9 +231,13 @@ module _ {n : ℕ} {edge : ℕ → ℕ → Bool} {labels free falling list : Lis
       count = arrived-count;
     }
 
-    arrived-way : (c : ℕ) → c < k → OnIt c (ended .taken c) (non (isFalling (arrived r m) c)) (head (arrived r m) c)
-    unfolding arrived finishing isFalling
+    arrived-way : (c : ℕ) → c < k → OnIt c (ended .taken c) (isFree (arrived r m) c) (head (arrived r m) c)
+    unfolding arrived finishing isFree
     arrived-way = state .way
 
+    arrived-classed : (c : ℕ) → c < k → class (arrived r m) c ≡ classOf (isFree (arrived r m) c)
+    unfolding arrived isFree
+    arrived-classed = state .classed
+
     pub arrived-state : State n edge labels free falling list (arrived r m) (finishing s m)
-    arrived-state = record { says = arrived-says; kept = arrived-kept m (state .kept); way = arrived-way }
+    arrived-state = record { says = arrived-says; kept = arrived-kept m (state .kept); way = arrived-way; classed = arrived-classed }

@@ -3,24 +3,31 @@
 use mathlib.Core.Path.{_≡_, refl, sym, _∙_, ap}
 use mathlib.Core.Bool.{Bool, false}
 use mathlib.Core.List.{List}
+use mathlib.Core.Logic.{_⊎_, inl, inr, ⊎-elim, _↔_}
 use Prim.Native.Nat.{ℕ, suc, _-_, _<_}
 use native.Mathlib.Omega.{arith}
 use Rattle.finite.proofs.Truth.{no-tf, same-eq}
 use Rattle.lawful.specs.Turn.{labelIn}
 use Rattle.claims.specs.Claims.{Progress, holds, wanted, Exclusive}
+use Rattle.refusal.specs.declared.Refusal.{Refusal}
+use Rattle.refusal.specs.declared.Refusal.the-variants.{Unknown}
 use Rattle.claims.proofs.Holding.{holds-held}
 use Rattle.claims.proofs.Waiting.{not-own}
+use Rattle.hops.specs.declared.HopAnswer.{HopAnswer}
+use Rattle.hops.specs.declared.HopAnswer.the-variants as hop
+use Rattle.hops.specs.Hop.{hasNext}
+use Rattle.hops.specs.Tabled.{Tabled}
 use Rattle.messages.specs.declared.Record.{Record}
-use Rattle.messages.specs.declared.Answer.the-variants.{Moved, Blocked}
+use Rattle.messages.specs.declared.Answer.the-variants.{Moved, Blocked, Refused}
 use Rattle.messages.specs.declared.Stepped.{Stepped}
-use Rattle.messages.specs.Step.{head, target, isDelivered, nextChannel, holder, moved, arrived, stepOf}
-use Rattle.messages.specs.Runs.{Tabled, Listed, messagesIn, itineraryIn, Reached, successful}
-use Rattle.messages.specs.Tells.{keeps, Says, BlockedBy, Took, Arrived, Tells}
-use Rattle.messages.proofs.Moves.{Case, unknown, already, arrives, waits, moves, step-case}
+use Rattle.messages.specs.Step.{head, target, isDelivered, aheadOf, nextChannel, holder, moved, arrived, stepOf}
+use Rattle.messages.specs.Runs.{Listed, messagesIn, itineraryIn, Reached, successful}
+use Rattle.messages.specs.Tells.{keeps, Says, BlockedBy, Took, Arrived, Tells, MoveFault, no-message, no-hop}
+use Rattle.messages.proofs.Moves.{step-none, step-astray, Case, unknown, already, arrives, astray, waits, moves, step-case}
 use Rattle.messages.proofs.Channels.{channelRank}
 use Rattle.messages.proofs.Changes.{released-here, released-other, moved-holder, moved-holders, arrived-holders}
 use Rattle.messages.proofs.State.{State}
-use Rattle.messages.proofs.Hops.{all-taken, more-to-take, next-wanted, next-inside}
+use Rattle.messages.proofs.Hops.{all-taken, ahead-next, more-to-take, next-wanted, next-inside}
 use Rattle.messages.proofs.Total.{channels-rising}
 use Rattle.messages.proofs.Tried.{known, unknown-high, not-done, holder-low, holder-holds}
 use Rattle.messages.proofs.After.{moved-state, arrived-state}
@@ -34,8 +41,31 @@ unchanged r m = go (step-case r m)
     go (unknown t) h = refl
     go (already l u) h = refl
     go (arrives l u e) h = no-tf refl h
-    go (waits l u d b) h = refl
-    go (moves l u d z) h = no-tf refl h
+    go (astray l u d a) h = refl
+    go (waits l u d a b) h = refl
+    go (moves l u d a z) h = no-tf refl h
+
+-- RULES 8.3: "refused, with 10, where there is no such message, or where it has a hop to go and hop answers none or a refusal", whatever record it is
+pub move-refused-iff : (r : Record) (m : ℕ) (f : Refusal) → (stepOf r m .answer ≡ Refused f) ↔ ((f ≡ Unknown 0) × MoveFault r m)
+move-refused-iff r m f = (λ e. faulty (step-case r m) e, λ o. given (o .1) ∙ ap Refused (sym (o .0)))
+  where
+    given : MoveFault r m → stepOf r m .answer ≡ Refused (Unknown 0)
+    given (no-message l) = ap (λ (z : Stepped). z .answer) (step-none r m l)
+    given (no-hop l u d a) =
+        ap (λ (z : Stepped). z .answer) (step-astray r m l u d (⊎-elim (λ e. ap hasNext e) (λ q. ap hasNext (q .1)) a))
+
+    no-node : (a : HopAnswer) → hasNext a ≡ false → (a ≡ hop.NoWay) ⊎ ((q : Refusal) × (a ≡ hop.Refused q))
+    no-node (hop.Next u c) h = no-tf refl h
+    no-node hop.NoWay h = inl refl
+    no-node (hop.Refused q) h = inr (q, refl)
+
+    faulty : {x : Stepped} → Case r m x → x .answer ≡ Refused f → (f ≡ Unknown 0) × MoveFault r m
+    faulty (unknown l) e = (cc, no-message l)
+    faulty (already l u) e = let z : _≡_ {A = ℕ} 0 1 = cc in absurd (omega arith)
+    faulty (arrives l u h) e = no-tf refl (ap successful e)
+    faulty (astray l u d a) e = (cc, no-hop l u d (no-node (aheadOf r m) a))
+    faulty (waits l u d a h) e = let z : _≡_ {A = ℕ} 0 1 = cc in absurd (omega arith)
+    faulty (moves l u d a h) e = no-tf refl (ap successful e)
 
 -- RULES 2.3: "One message to a channel": a channel has one holder in the record
 pub one-message : {n : ℕ} {edge : ℕ → ℕ → Bool} {labels list : List ℕ} {r : Record} {s : Progress} → Says n edge labels list r s
@@ -98,10 +128,12 @@ module _ {n : ℕ} {edge : ℕ → ℕ → Bool} {labels free falling list : Lis
   case-tells state m (unknown t) = (unknown-high tabled listed state m t, refl, refl)
   case-tells state m (already l u) = (known tabled listed state m l, u, refl)
   case-tells state m (arrives l u e) = let low = known tabled listed state m l in (low, u, gives-back state m low u e)
-  case-tells {r} state m (waits l u d h) =
+  case-tells {r} state m (astray l u d a) =
+      no-tf (ahead-next tabled listed state m (known tabled listed state m l) d) a
+  case-tells {r} state m (waits l u d a h) =
       let low = known tabled listed state m l in
       (low, u, waits-for state m low u d (holder r (nextChannel r m) - 1) (holder-low tabled listed state m h) (omega arith), refl)
-  case-tells state m (moves l u d z) = let low = known tabled listed state m l in (low, u, takes-one state m low u d z)
+  case-tells state m (moves l u d a z) = let low = known tabled listed state m l in (low, u, takes-one state m low u d z)
 
   module _ {r : Record} (run : Reached n labels free falling list r) (m : ℕ) where
     pub each-answer : Tells n edge labels list r m (stepOf r m .«record») (stepOf r m .answer)

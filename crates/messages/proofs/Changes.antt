@@ -10,7 +10,7 @@ use Rattle.finite.proofs.Truth.{bcase, true-non, eq-same, ne-same, below-lt, be
 use Rattle.finite.proofs.Lists.{tabulate-at, tabulate-out}
 use Rattle.messages.specs.Sizes.{maxPairs}
 use Rattle.messages.specs.declared.Record.{Record}
-use Rattle.messages.specs.Step.{head, isFalling, isDelivered, nextNode, nextChannel, holder, classAfter, released, moved, arrived}
+use Rattle.messages.specs.Step.{head, class, isDelivered, nextNode, nextClass, nextChannel, holder, released, moved, arrived}
 
 pub released-here : (h holder : ℕ) → h ≡ holder → released holder h ≡ 0
 unfolding released
@@ -29,13 +29,13 @@ module _ (r : Record) (m : ℕ) where
   unfolding moved
   moved-head l = getD-set-same (r .heads) m _ 0 l
 
-  pub moved-classes : (c : ℕ) → (m ≡ c → ⊥) → isFalling (moved r m) c ≡ isFalling r c
-  unfolding moved isFalling
-  moved-classes c d = ap (λ (x : ℕ). non (same x 0)) (getD-set-other (r .classes) m c _ 0 (λ e. d (sym e)))
+  pub moved-classes : (c : ℕ) → (m ≡ c → ⊥) → class (moved r m) c ≡ class r c
+  unfolding moved
+  moved-classes c d = getD-set-other (r .classes) m c _ 0 (λ e. d (sym e))
 
-  pub moved-class : m < length (r .classes) → isFalling (moved r m) m ≡ non (same (classAfter r m) 0)
-  unfolding moved isFalling
-  moved-class l = ap (λ (x : ℕ). non (same x 0)) (getD-set-same (r .classes) m _ 0 l)
+  pub moved-class : m < length (r .classes) → class (moved r m) m ≡ nextClass r m
+  unfolding moved
+  moved-class l = getD-set-same (r .classes) m _ 0 l
 
   pub moved-holders : (c : ℕ) → (nextChannel r m ≡ c → ⊥) → holder (moved r m) c ≡ holder r c
   unfolding moved

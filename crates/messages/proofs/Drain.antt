@@ -15,13 +15,14 @@ use Rattle.nodes.specs.Limits.{maxNodes}
 use Rattle.claims.specs.Claims.{Progress, holds}
 use Rattle.claims.proofs.Holding.{holds-held}
 use Rattle.claims.proofs.Counting.{made-le, made-whole, all-free}
+use Rattle.hops.specs.Tabled.{Tabled}
 use Rattle.messages.specs.declared.Record.{Record}
 use Rattle.messages.specs.declared.Stepped.{Stepped}
 use Rattle.messages.specs.Step.{isDelivered, holder, counted, moved, arrived, stepOf}
 use Rattle.messages.specs.Fresh.{begunOf}
-use Rattle.messages.specs.Runs.{Tabled, Listed, messagesIn, itineraryIn, allMoves, Reached, fresh, move, successful, successes}
+use Rattle.messages.specs.Runs.{Listed, messagesIn, itineraryIn, allMoves, Reached, fresh, move, successful, successes}
 use Rattle.messages.specs.Tells.{keeps, Says, FreeFrom}
-use Rattle.messages.proofs.Moves.{Case, unknown, already, arrives, waits, moves, step-case}
+use Rattle.messages.proofs.Moves.{Case, unknown, already, arrives, astray, waits, moves, step-case}
 use Rattle.messages.proofs.State.{State}
 use Rattle.messages.proofs.Total.{all-moves-small, all-moves-whole, channels-inside}
 use Rattle.messages.proofs.Tried.{some-succeeds}
@@ -111,8 +112,9 @@ module _ {n : ℕ} {edge : ℕ → ℕ → Bool} {labels free falling list : Lis
     case-counts (unknown t) h = no-tf h refl
     case-counts (already l u) h = no-tf h refl
     case-counts (arrives l u e) h = counts
-    case-counts (waits l u d b) h = no-tf h refl
-    case-counts (moves l u d z) h = counts
+    case-counts (astray l u d a) h = no-tf h refl
+    case-counts (waits l u d a b) h = no-tf h refl
+    case-counts (moves l u d a z) h = counts
 
     -- RULES 8.3: "Moved and delivered are one successful move each."
     pub counts-one : (m : ℕ) → successful (stepOf r m .answer) ≡ true → stepOf r m .«record» .moves ≡ suc (r .moves)

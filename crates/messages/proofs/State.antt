@@ -6,18 +6,20 @@ use Prim.Native.Nat.{ℕ, suc, _+_, _*_, _≤_, _<_, zero-le}
 use native.Mathlib.Omega.{arith}
 use lib.ListN.{length, getD, length-replicate}
 use Rattle.finite.specs.Truth.{non, same}
-use Rattle.finite.proofs.Truth.{no-tf, refute, false-non, true-non, ne-same, same-refl}
+use Rattle.finite.proofs.Truth.{no-tf, refute, false-non, ne-same, same-refl}
 use Rattle.finite.proofs.Sum.{sum-zero}
 use Rattle.finite.proofs.Lists.{getD-zeros, tabulate-length, tabulate-at}
 use Rattle.lawful.specs.Turn.{labelIn}
 use Rattle.lawful.proofs.Climb.{climbing-run}
 use Rattle.claims.specs.Claims.{Progress, made}
 use Rattle.claims.proofs.Holding.{holds-held}
+use Rattle.hops.specs.Tabled.{classOf, Tabled}
+use Rattle.hops.proofs.Leads.{class-is-free}
 use Rattle.messages.specs.Sizes.{maxMessages, maxPairs}
 use Rattle.messages.specs.declared.Record.{Record}
-use Rattle.messages.specs.Step.{head, target, isFalling, isDelivered}
+use Rattle.messages.specs.Step.{head, target, class, isDelivered}
 use Rattle.messages.specs.Fresh.{sourceIn, targetIn, zeros, begunOf}
-use Rattle.messages.specs.Runs.{Tabled, Listed, messagesIn, routeIn, itineraryIn}
+use Rattle.messages.specs.Runs.{Listed, messagesIn, routeIn, itineraryIn}
 use Rattle.messages.specs.Tells.{keeps, Says}
 use Rattle.messages.proofs.Way.{OnWay, way-start}
 
@@ -34,6 +36,15 @@ pub record Kept (n : ℕ) (labels free falling list : List ℕ) (r : Record) : T
   pub delivered-size : length (r .delivered) ≡ maxMessages
   pub holders-size : length (r .holders) ≡ maxPairs
 
+-- the message is free: RULES 5.1, "(class 0)"
+unfoldable pub isFree : Record → ℕ → Bool
+isFree r m = same (class r m) 0
+
+-- the class as a number says whether it is free
+pub free-is : (r : Record) (m : ℕ) {c : Bool} → class r m ≡ classOf c → isFree r m ≡ c
+unfolding isFree
+free-is r m {c} e = ap (λ (x : ℕ). same x 0) e ∙ class-is-free c
+
 -- message m is on its way along its route
 abbrev pub OnRoute : ℕ → (ℕ → ℕ → Bool) → List ℕ → List ℕ → ℕ → ℕ → Bool → ℕ → Type 0
 OnRoute n edge labels list m = OnWay n edge (labelIn labels) (sourceIn list m) (targetIn list m) (routeIn n edge labels list m)
@@ -41,7 +52,8 @@ OnRoute n edge labels list m = OnWay n edge (labelIn labels) (sourceIn list m) (
 pub record State (n : ℕ) (edge : ℕ → ℕ → Bool) (labels free falling list : List ℕ) (r : Record) (s : Progress) : Type 0 where
   pub says : Says n edge labels list r s
   pub kept : Kept n labels free falling list r
-  pub way : (m : ℕ) → m < messagesIn list → OnRoute n edge labels list m (s .taken m) (non (isFalling r m)) (head r m)
+  pub way : (m : ℕ) → m < messagesIn list → OnRoute n edge labels list m (s .taken m) (isFree r m) (head r m)
+  pub classed : (m : ℕ) → m < messagesIn list → class r m ≡ classOf (isFree r m)
 
 -- nobody has taken anything
 abbrev pub none-taken : Progress
@@ -94,9 +106,12 @@ module _ {n : ℕ} {edge : ℕ → ℕ → Bool} {labels free falling list : Lis
   unfolding begunOf
   start-head m l = let b = few-messages in tabulate-at maxMessages (sourceIn list) m 0 (omega arith)
 
-  start-free : (m : ℕ) → non (isFalling start m) ≡ true
-  unfolding begunOf isFalling
-  start-free m = ap (λ (x : ℕ). non (non (same x 0))) (zeros-at maxMessages m) ∙ true-non (false-non (same-refl 0))
+  start-class : (m : ℕ) → class start m ≡ 0
+  unfolding begunOf
+  start-class m = zeros-at maxMessages m
+
+  start-free : (m : ℕ) → isFree start m ≡ true
+  start-free m = free-is start m {c = true} (start-class m)
 
   start-says : Says n edge labels list start none-taken
   unfolding begunOf isDelivered
@@ -111,7 +126,7 @@ module _ {n : ℕ} {edge : ℕ → ℕ → Bool} {labels free falling list : Lis
     count = sym (none-made (messagesIn list));
   }
 
-  start-way : (m : ℕ) → m < messagesIn list → OnRoute n edge labels list m 0 (non (isFalling start m)) (head start m)
+  start-way : (m : ℕ) → m < messagesIn list → OnRoute n edge labels list m 0 (isFree start m) (head start m)
   unfolding routeIn
   start-way m l =
       let r = climbing-run n edge (labelIn labels) (tabled .climbing) (tabled .network .undirected) (sourceIn list m) (targetIn list m) (source-low m l) (target-low m l) in
@@ -123,4 +138,5 @@ module _ {n : ℕ} {edge : ℕ → ℕ → Bool} {labels free falling list : Lis
     says = start-says;
     kept = start-kept;
     way = start-way;
+    classed = λ m l. rw (start-free m) (start-class m);
   }

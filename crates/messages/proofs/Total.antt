@@ -13,9 +13,10 @@ use Rattle.lawful.proofs.Few.{few-on-route}
 use Rattle.nodes.specs.Limits.{maxNodes}
 use Rattle.lawful.specs.Turn.{labelIn}
 use Rattle.claims.specs.Claims.{Rising, whole}
+use Rattle.hops.specs.Tabled.{Tabled}
 use Rattle.messages.specs.Sizes.{maxMessages}
 use Rattle.messages.specs.Fresh.{sourceIn, targetIn}
-use Rattle.messages.specs.Runs.{Tabled, Listed, messagesIn, routeIn, itineraryIn, allMoves}
+use Rattle.messages.specs.Runs.{Listed, messagesIn, routeIn, itineraryIn, allMoves}
 use Rattle.messages.proofs.Channels.{channels-length, channelRank, channels-low, channels-rise}
 use Rattle.messages.proofs.State.{few-messages, source-low, target-low}
 
@@ -59,12 +60,12 @@ module _ {n : ℕ} {edge : ℕ → ℕ → Bool} {labels free falling list : Lis
   pub channels-rising : Rising (messagesIn list) (itineraryIn n edge labels list) (channelRank n (labelIn labels))
   unfolding itineraryIn
   channels-rising m low i j =
-      channels-rise n edge (labelIn labels) (tabled .many) (tabled .network .inside) (sourceIn list m) (targetIn list m) (routeIn n edge labels list m)
+      channels-rise n edge (labelIn labels) (tabled .most) (tabled .network .inside) (sourceIn list m) (targetIn list m) (routeIn n edge labels list m)
       (hops-shortest m low .is) (tabled .climbing .distinct) (tabled .highest) i j
 
   -- and each is between two of the n nodes
   pub channels-inside : (m : ℕ) → m < messagesIn list → (i : ℕ) → i < length (itineraryIn n edge labels list m) → getD (itineraryIn n edge labels list m) i 0 < maxNodes * n
   unfolding itineraryIn
   channels-inside m low =
-      channels-low n edge (labelIn labels) (tabled .many) (tabled .network .inside) (sourceIn list m) (targetIn list m) (routeIn n edge labels list m)
+      channels-low n edge (labelIn labels) (tabled .most) (tabled .network .inside) (sourceIn list m) (targetIn list m) (routeIn n edge labels list m)
       (hops-shortest m low .is) (source-low tabled listed m low)

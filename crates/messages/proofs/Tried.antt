@@ -4,22 +4,23 @@ use mathlib.Core.Bool.{Bool, true, false}
 use mathlib.Core.List.{List}
 use Prim.Native.Nat.{ℕ, suc, _-_, _≤_, _<_}
 use native.Mathlib.Omega.{arith}
-use Rattle.finite.specs.Truth.{_&_, non, below}
+use Rattle.finite.specs.Truth.{non}
 use Rattle.finite.specs.Search.{Some}
-use Rattle.finite.proofs.Truth.{no-tf, bcase, both, eq-same, below-lt, below-le, lt-below}
+use Rattle.finite.proofs.Truth.{no-tf, eq-same}
 use Rattle.lawful.specs.Turn.{labelIn}
 use Rattle.claims.specs.Claims.{Progress, holds, wanted, CanStep, can-take, can-finish}
 use Rattle.claims.proofs.Waiting.{some-can-step}
-use Rattle.messages.specs.Sizes.{maxMessages}
+use Rattle.hops.specs.Tabled.{Tabled}
 use Rattle.messages.specs.declared.Record.{Record}
 use Rattle.messages.specs.declared.Stepped.{Stepped}
 use Rattle.messages.specs.Step.{head, target, isDelivered, nextChannel, holder, stepOf}
-use Rattle.messages.specs.Runs.{Tabled, Listed, messagesIn, itineraryIn, successful}
+use Rattle.messages.specs.Runs.{Listed, messagesIn, itineraryIn, successful}
 use Rattle.messages.specs.Tells.{keeps}
-use Rattle.messages.proofs.Moves.{Case, unknown, already, arrives, waits, moves, step-case}
+use Rattle.messages.specs.Ready.{messagesOf}
+use Rattle.messages.proofs.Moves.{Case, unknown, already, arrives, astray, waits, moves, step-case}
 use Rattle.messages.proofs.Channels.{channelRank}
 use Rattle.messages.proofs.State.{State, few-messages}
-use Rattle.messages.proofs.Hops.{more-to-take, next-wanted}
+use Rattle.messages.proofs.Hops.{ahead-next, more-to-take, next-wanted}
 use Rattle.messages.proofs.Total.{channels-rising}
 
 module _ {n : ℕ} {edge : ℕ → ℕ → Bool} {labels free falling list : List ℕ} (tabled : Tabled n edge labels free falling) (listed : Listed n list)
@@ -31,18 +32,11 @@ module _ {n : ℕ} {edge : ℕ → ℕ → Bool} {labels free falling list : Lis
   itinerary = itineraryIn n edge labels list
 
   module _ (m : ℕ) where
-    pub known : m < r .messages → m < k
+    pub known : m < messagesOf r → m < k
     known l = let e = state .kept .messages in omega arith
 
-    pub unknown-high : below m (r .messages) & below m maxMessages ≡ false → k ≤ m
-    unknown-high t =
-        bcase (below m k)
-        (λ b.
-        let l = below-lt _ _ b in
-        let e = state .kept .messages in
-        let f = few-messages tabled listed in
-        no-tf (both (lt-below {a = m} {b = r .messages} (omega arith)) (lt-below {a = m} {b = maxMessages} (omega arith))) t)
-        (below-le _ _)
+    pub unknown-high : messagesOf r ≤ m → k ≤ m
+    unknown-high l = let e = state .kept .messages in let f = few-messages tabled listed in omega arith
 
     pub not-done : m < k → isDelivered r m ≡ false → s .done m ≡ false
     not-done l u = sym (state .says .done m l) ∙ u
@@ -61,9 +55,10 @@ module _ {n : ℕ} {edge : ℕ → ℕ → Bool} {labels free falling list : Lis
     can-succeed low (already l u) (can-take f b h) = no-tf (sym (state .says .done m low) ∙ u) f
     can-succeed low (already l u) (can-finish f e) = no-tf (sym (state .says .done m low) ∙ u) f
     can-succeed low (arrives l u e) c = refl
-    can-succeed low (waits l u d h) (can-take f b none) = let i = holder-low h in no-tf (holder-holds low d _ i (omega arith)) (none _ i)
-    can-succeed low (waits l u d h) (can-finish f e) = let b = more-to-take tabled listed state m low d in absurd (omega arith)
-    can-succeed low (moves l u d h) c = refl
+    can-succeed low (astray l u d a) c = no-tf (ahead-next tabled listed state m low d) a
+    can-succeed low (waits l u d a h) (can-take f b none) = let i = holder-low h in no-tf (holder-holds low d _ i (omega arith)) (none _ i)
+    can-succeed low (waits l u d a h) (can-finish f e) = let b = more-to-take tabled listed state m low d in absurd (omega arith)
+    can-succeed low (moves l u d a h) c = refl
 
   -- while any is undelivered some message can move
   pub some-succeeds : Some k (λ m. non (isDelivered r m)) → Some k (λ m. successful (stepOf r m .answer))

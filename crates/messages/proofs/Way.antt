@@ -56,7 +56,7 @@ module _ {n : ℕ} {edge : ℕ → ℕ → Bool} {label : ℕ → ℕ} (inside :
       nearer : Nearer n edge label t class node next
       nearer = entry-nearer n edge label t inside low d (w .run)
 
-      pub way-hop : Hop edge label class node class-then next
+      way-hop : Hop edge label class node class-then next
       way-hop = nearer .first
 
       pub way-next : OnWay n edge label v t l (suc i) class-then next

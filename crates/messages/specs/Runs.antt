@@ -1,29 +1,17 @@
 -- Runs of the machine: what a start guarantees, the records that moves lead to from there, and the sum of (hops + 1).
-use mathlib.Core.Path.{_≡_}
 use mathlib.Core.Bool.{Bool, true, false}
 use mathlib.Core.List.{List, [], _∷_}
-use Prim.Native.Nat.{ℕ, _+_, _*_, _/_, _≤_, _<_}
+use Prim.Native.Nat.{ℕ, _+_, _/_, _≤_, _<_}
 use lib.ListN.{length, getD}
 use Rattle.finite.specs.Sum.{sumTo, when}
-use Rattle.graph.specs.Network.{Network}
-use Rattle.lawful.specs.Turn.{Climbing, labelIn}
-use Rattle.lawful.specs.Entry.{entry, routeOf}
-use Rattle.nodes.specs.Limits.{maxNodes}
+use Rattle.lawful.specs.Turn.{labelIn}
+use Rattle.lawful.specs.Entry.{routeOf}
 use Rattle.messages.specs.declared.Record.{Record}
 use Rattle.messages.specs.declared.Answer.{Answer}
 use Rattle.messages.specs.declared.Answer.the-variants.{Already, Moved, Blocked, Delivered, Refused}
 use Rattle.messages.specs.Sizes.{maxList}
 use Rattle.messages.specs.Step.{channel, stepOf}
 use Rattle.messages.specs.Fresh.{sourceIn, targetIn, begunOf}
-
--- a network of n nodes with a climbing labelling, and the two tables of its entries, row by row
-pub record Tabled (n : ℕ) (edge : ℕ → ℕ → Bool) (labels free falling : List ℕ) : Type 0 where
-  pub many : n ≤ maxNodes
-  pub network : Network n edge
-  pub climbing : Climbing n edge (labelIn labels)
-  pub highest : (v : ℕ) → v < n → labelIn labels v ≤ n
-  pub free-rows : (v t : ℕ) → v < n → t < n → getD free (v * n + t) 0 ≡ entry n edge (labelIn labels) t true v
-  pub falling-rows : (v t : ℕ) → v < n → t < n → getD falling (v * n + t) 0 ≡ entry n edge (labelIn labels) t false v
 
 -- RULES 8.2: "a list of byte pairs (source, destination), 0 to 256 of them", each byte a node. That the pairs are whole is not asked: a last byte
 -- without a second makes no message

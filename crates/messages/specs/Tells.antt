@@ -2,15 +2,19 @@
 use mathlib.Core.Path.{_≡_}
 use mathlib.Core.Bool.{Bool, true, false}
 use mathlib.Core.List.{List, _∷_}
+use mathlib.Core.Logic.{_⊎_}
 use Prim.Native.Nat.{ℕ, suc, _≤_, _<_}
 use lib.ListN.{length, getD}
 use Rattle.finite.specs.Truth.{same}
+use Rattle.refusal.specs.declared.Refusal.{Refusal}
 use Rattle.refusal.specs.declared.Refusal.the-variants.{Unknown}
+use Rattle.hops.specs.declared.HopAnswer.the-variants as hop
 use Rattle.claims.specs.Claims.{Progress, Keeps, holds, wanted, taking, finishing, WithinItinerary, made}
 use Rattle.messages.specs.declared.Record.{Record}
 use Rattle.messages.specs.declared.Answer.{Answer}
 use Rattle.messages.specs.declared.Answer.the-variants.{Already, Moved, Blocked, Delivered, Refused}
-use Rattle.messages.specs.Step.{head, isDelivered, nextChannel, holder}
+use Rattle.messages.specs.Step.{head, target, isDelivered, aheadOf, nextChannel, holder}
+use Rattle.messages.specs.Ready.{messagesOf}
 use Rattle.messages.specs.Fresh.{sourceIn}
 use Rattle.messages.specs.Runs.{messagesIn, routeIn, itineraryIn}
 
@@ -73,3 +77,10 @@ Tells n edge labels list r m after Moved = (m < messagesIn list) × (isDelivered
 Tells n edge labels list r m after (Blocked b) = (m < messagesIn list) × (isDelivered r m ≡ false) × BlockedBy (messagesIn list) r m b × (after ≡ r)
 Tells n edge labels list r m after Delivered = (m < messagesIn list) × (isDelivered r m ≡ false) × Arrived n edge labels list r m after
 Tells n edge labels list r m after (Refused f) = (messagesIn list ≤ m) × (f ≡ Unknown 0) × (after ≡ r)
+
+-- 10 of a move, whatever record it is. RULES 9.1: "Move: no such message, or hop answers none or a refusal (8.3)."; hop is asked only for a message that is neither
+-- delivered nor at its destination
+pub data MoveFault (r : Record) (m : ℕ) : Type 0 where
+  no-message : messagesOf r ≤ m → MoveFault r m
+  no-hop : m < messagesOf r → isDelivered r m ≡ false → (head r m ≡ target r m → ⊥)
+      → (aheadOf r m ≡ hop.NoWay) ⊎ ((f : Refusal) × (aheadOf r m ≡ hop.Refused f)) → MoveFault r m

@@ -38,7 +38,7 @@ pub enum Answer {
     Blocked(usize),
     // It is delivered now, and gave back all its channels.
     Delivered,
-    // There is no such message.
+    // There is no such message, or hop answers it no node.
     Refused(Refusal),
 }
 

@@ -18,6 +18,9 @@ pub const MAX_LINKS: usize = 512;
 // RULES 3.1: "a node has at most 16 links"
 pub const MAX_DEGREE: usize = 16;
 
+// RULES 5.3: "255 exactly when there is none"
+pub const NONE: u8 = 255;
+
 // One word of 64 bits: node v is a member where bit v is set. Other crates know a set by its members alone.
 pub type Set = u64;
 

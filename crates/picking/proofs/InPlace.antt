@@ -16,7 +16,7 @@ use Rattle.picking.specs.Order.{chosenBy, chosen, pickOf}
 use Rattle.picking.specs.InPlace.{picked, pickIn}
 
 pub picked-in : (span seed : ℕ) (r : Record) {next n look message : ℕ} {x : Record} {a : Answer} → next ≡ nextSeed seed → n ≡ messagesOf r → look ≡ lookAt next n
-    → message ≡ chosenBy (messagesOf r) (readyAt (r .nodes) (r .free) (r .falling) (r .targets) (r .heads) (r .classes) (r .delivered) (r .holders)) look
+    → message ≡ chosenBy (messagesOf r) (readyAt (r .nodes) (r .labels) (r .free) (r .falling) (r .targets) (r .heads) (r .classes) (r .delivered) (r .holders)) look
     → with x a ≡ stepIn span r message → picked next look message x ≡ pickIn span seed r
 unfolding pickIn ready
 picked-in span seed r e f g h i =

@@ -28,11 +28,12 @@ pub struct PickedIn {
 }
 
 // The first message that is ready from `look` on, going round; `look` where none is.
-fn choice(
+fn choice<'a>(
     nodes: usize,
     messages: usize,
-    free: &[u8],
-    falling: &[u8],
+    labels: &'a [u8],
+    free: &'a [u8],
+    falling: &'a [u8],
     targets: &[u8],
     heads: &[u8],
     classes: &[u8],
@@ -41,13 +42,14 @@ fn choice(
     look: usize,
 ) -> usize
     requires { ⌜ look ≤ maxMessages ⌝ }
-    ensures { λ r. ⌜ r ≡ chosenBy (min messages maxMessages) (readyAt nodes (now (free .entry)) (now (falling .entry)) (now (targets .entry)) (now (heads .entry)) (now (classes .entry)) (now (delivered .entry)) (now (holders .entry))) look ⌝ }
+    ensures { λ r. ⌜ r ≡ chosenBy (min messages maxMessages) (readyAt nodes (now (labels .entry)) (now (free .entry)) (now (falling .entry)) (now (targets .entry)) (now (heads .entry)) (now (classes .entry)) (now (delivered .entry)) (now (holders .entry))) look ⌝ }
 {
     let n = machine::few(messages);
     for k in 0..n {
         let m = (look + k) % n;
         if machine::is_ready(
             nodes,
+            labels,
             free,
             falling,
             holders,
@@ -85,6 +87,7 @@ pub fn pick_in<'a>(
     let chosen = choice(
         nodes,
         messages,
+        labels,
         free,
         falling,
         targets,

@@ -11,13 +11,11 @@ ghost use Rattle.network.specs.Table.{edgeOf};
 ghost use Rattle.rows.specs.Tables.{tableSize, tablesOf};
 ghost use Rattle.rows.specs.Steps.{waysOf, searchFrom, enteredOf, intoOf, touches, Worth, Asking, halfOf, roundOf, rounds, searchAt, OfWays, columnOf, placedOf};
 use nodes::MAX_NODES;
+use nodes::NONE;
 use nodes::Set;
 
 // The bytes of a table with a row for each of 64 nodes.
 pub const TABLE: usize = MAX_NODES * MAX_NODES;
-
-// RULES 5.3: "255 exactly when there is none"
-pub const NONE: u8 = 255;
 
 // After so many rounds of a search no node joins.
 const ROUNDS: usize = MAX_NODES + MAX_NODES;

@@ -1,6 +1,5 @@
 -- A start that is not refused is one that demand 3 speaks of: a climbing fabric with the tables of its entries, and a list of messages between its nodes.
-use mathlib.Core.Path.{_≡_, sym, _∙_, ap, subst, fun-ext}
-use mathlib.Core.Bool.{Bool, true, false}
+use mathlib.Core.Path.{_≡_, ap, subst}
 use mathlib.Core.List.{List}
 use Prim.Native.Nat.{ℕ, _+_, _*_, _/_, _%_, _≤_, _<_}
 use native.Mathlib.Omega.{arith}
@@ -8,59 +7,26 @@ use lib.Dec.{leb, eqb}
 use lib.ListN.{getD}
 use borrow.Author.Tests.{leb-true, leb-false, eqb-true, eqb-false}
 use Rattle.finite.proofs.Truth.{bcase}
-use Rattle.finite.specs.Lists.{padded}
-use Rattle.finite.proofs.Lists.{padded-at}
-use Rattle.nodes.specs.Limits.{maxNodes}
 use Rattle.refusal.specs.declared.Verdict.the-variants.{Fine}
 use Rattle.refusal.proofs.Verdicts.{and-then-fine}
-use Rattle.cabling.specs.Cabling.{Cabling, Good, links}
-use Rattle.cabling.proofs.Joined.{good-network}
-use Rattle.lawful.specs.Turn.{Climbing, labelIn}
-use Rattle.lawful.specs.Entry.{entry}
-use Rattle.rows.specs.Tables.{tableSize}
-use Rattle.fabric.specs.Fabric.{labelsFor, labelFor, rowsFor, fabricOf}
-use Rattle.fabric.proofs.Labels.{good-climbing, good-label-le}
-use Rattle.fabric.proofs.Rows.{good-row-at}
+use Rattle.cabling.specs.Cabling.{Cabling}
+use Rattle.fabric.specs.Fabric.{fabricOf}
+use Rattle.fabric.proofs.Arrays.{TabledFor, good-tabled}
 use Rattle.format.specs.Contents.{nodesIn}
 use Rattle.image.specs.Image.{cablingIn}
 use Rattle.image.specs.Faults.{imageFault}
 use Rattle.image.proofs.Images.{accepted-good}
 use Rattle.messages.specs.declared.Record.{Record}
-use Rattle.messages.specs.Runs.{Tabled, Listed, Reached, fresh}
+use Rattle.messages.specs.Runs.{Listed, Reached, fresh}
 use Rattle.start.specs.declared.Started.{Started}
 use Rattle.start.specs.Start.{listFault, startFault, freshOf, recordAfter, startOf}
 use Rattle.start.specs.Verdicts.{OfList, fine}
 use Rattle.start.proofs.Cases.{start-by}
 use Rattle.start.proofs.Meaning.{list-means}
 
--- the fabric of a cabling has the tables of its network
-abbrev pub TabledFor : Cabling → Type 0
-TabledFor c = Tabled (c .nodes) (links c) (fabricOf c .labels) (fabricOf c .free) (fabricOf c .falling)
-
--- the records that moves lead to from a start in it
+-- the records that moves lead to from a start in the fabric of a cabling
 abbrev pub RunFor : Cabling → List ℕ → Record → Type 0
 RunFor c = Reached (c .nodes) (fabricOf c .labels) (fabricOf c .free) (fabricOf c .falling)
-
--- labels are read the same from the list and from the fabric's array
-pub label-read : (c : Cabling) → labelIn (fabricOf c .labels) ≡ labelFor c
-unfolding fabricOf
-label-read c = fun-ext (padded-at maxNodes (labelsFor c))
-
-pub good-fabric : {c : Cabling} → Good c → TabledFor c
-unfolding fabricOf
-good-fabric {c} g =
-    let read = sym (label-read c) in
-    let row : (class : Bool) (v t : ℕ) → v < c .nodes → t < c .nodes
-    → getD (padded tableSize (rowsFor c class)) (v * c .nodes + t) 0 ≡ entry (c .nodes) (links c) (labelIn (fabricOf c .labels)) t class v =
-    λ class v t k l. padded-at _ _ _ ∙ good-row-at g class v t k l ∙ ap (λ (f : ℕ → ℕ). entry (c .nodes) (links c) f t class v) read in
-    record {
-      many = g .few;
-      network = good-network g;
-      climbing = subst (Climbing (c .nodes) (links c)) read (good-climbing g);
-      highest = λ v l. rw padded-at (good-label-le g v);
-      free-rows = row true;
-      falling-rows = row false;
-    }
 
 -- a list without a fault is one of messages between nodes
 pub fine-listed : (n : ℕ) (list : List ℕ) → listFault n list ≡ Fine → Listed n list
@@ -93,7 +59,7 @@ module _ (b list : List ℕ) (fine : startFault b list ≡ Fine) where
   start-reached old = subst (RunFor (cablingIn b) list) (ap (λ (s : Started). s .«record») (start-by old b list fine)) (fresh-reached b list)
 
   pub start-fabric : TabledFor (cablingIn b)
-  start-fabric = good-fabric (accepted-good b (accepted .0))
+  start-fabric = good-tabled (accepted-good b (accepted .0))
 
   pub start-listed : Listed (nodesIn b) list
   start-listed = fine-listed (nodesIn b) list (accepted .1)

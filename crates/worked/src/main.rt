@@ -4,7 +4,7 @@ ghost use mathlib.Core.Path.{_≡_};
 ghost use Rattle.by_hand.specs.Networks.{worked};
 ghost use Rattle.worked.specs.Bytes.{flat};
 
-const WORKED: [u8; 503] = [
+const WORKED: [u8; 531] = [
     2,
     2,
     0,
@@ -24,6 +24,7 @@ const WORKED: [u8; 503] = [
     255,
     0,
     1,
+    0,
     12,
     1,
     1,
@@ -128,6 +129,7 @@ const WORKED: [u8; 503] = [
     0,
     0,
     0,
+    0,
     3,
     4,
     0,
@@ -160,6 +162,7 @@ const WORKED: [u8; 503] = [
     1,
     1,
     2,
+    0,
     0,
     0,
     0,
@@ -216,6 +219,22 @@ const WORKED: [u8; 503] = [
     0,
     2,
     2,
+    3,
+    15,
+    0,
+    0,
+    2,
+    2,
+    0,
+    0,
+    1,
+    1,
+    0,
+    0,
+    1,
+    2,
+    3,
+    1,
     3,
     0,
     0,
@@ -298,6 +317,13 @@ const WORKED: [u8; 503] = [
     0,
     0,
     3,
+    6,
+    1,
+    0,
+    3,
+    0,
+    0,
+    3,
     0,
     0,
     0,
@@ -359,6 +385,7 @@ const WORKED: [u8; 503] = [
     1,
     2,
     3,
+    0,
     0,
     0,
     0,
@@ -508,10 +535,11 @@ const WORKED: [u8; 503] = [
     0,
     0,
     0,
+    0,
 ];
 
 // The whole table.
-fn table() -> [u8; 503]
+fn table() -> [u8; 531]
     ensures { λ r. ⌜ r ≡ flat worked ⌝ }
 {
     WORKED

@@ -1,6 +1,7 @@
 //! Drawn cases: random networks through the programs, random damage, and
 //! random calls for every selector, right and wrong.
 
+use super::boards::{put, random_board, random_classes, resize, spoil};
 use super::cabling::*;
 use super::growing::*;
 use super::pack::*;
@@ -14,7 +15,7 @@ use crate::calls::route;
 type Drawer = fn(&mut Random, Set) -> (&'static str, Vec<u8>);
 
 /// The drawn families; cases go round them by index.
-pub const DRAWN: [(&str, Drawer); 25] = [
+pub const DRAWN: [(&str, Drawer); 26] = [
     ("trees", |r, set| on_network(r, set, tree)),
     ("sparse", |r, set| on_network(r, set, sparse)),
     ("mixed", |r, set| on_network(r, set, mixed)),
@@ -38,6 +39,7 @@ pub const DRAWN: [(&str, Drawer); 25] = [
     ("sheet", sheet),
     ("steps", steps),
     ("rounds", rounds),
+    ("moves", moves),
     ("trace", trace),
     ("bad", bad_call),
 ];
@@ -392,12 +394,76 @@ fn row(random: &mut Random, set: Set) -> (&'static str, Vec<u8>) {
     ("calls", row_call(&free, &falling, numbers))
 }
 
+/// An image's own labels and tables, the same with bytes changed, or drawn
+/// ones; and N.
+fn some_board(random: &mut Random, set: Set) -> (usize, Board) {
+    let cabling = match random.below(3) {
+        0 => random_turning(random, set).cabling,
+        _ => any_network(random, set),
+    };
+    let (nodes, mut board) = (cabling.nodes, Board::of(&cabling));
+    match random.below(4) {
+        0 => {}
+        1 => board = random_board(random, nodes),
+        _ => spoil(random, nodes, &mut board),
+    }
+    (nodes, board)
+}
+
+/// Two of three with nothing wrong but what the tables hold, where every other
+/// time the byte that is read is drawn anew; one of four at the destination.
 fn hop(random: &mut Random, set: Set) -> (&'static str, Vec<u8>) {
-    let (free, falling, nodes) = some_tables(random, set);
-    let (node, destination) = (below_or_not(random, nodes), below_or_not(random, nodes));
-    let count = count_or_not(random, nodes);
-    let numbers = [count, node, some_class(random), destination];
-    ("calls", hop_call(&free, &falling, numbers))
+    let (mut nodes, mut board) = some_board(random, set);
+    if random.one_in(12) {
+        nodes = random.pick(&[0, 1, 2, 64, 65]);
+        board = random_board(random, nodes);
+    }
+    let node = random.below(nodes.max(1));
+    let destination = match random.below(4) {
+        0 => node,
+        _ => random.below(nodes.max(1)),
+    };
+    if random.one_in(2) {
+        put(random, nodes, &mut board, node * nodes + destination);
+    }
+    let mut numbers = [nodes, node, random.below(2), destination];
+    match random.below(18) {
+        0 => numbers[0] = random.pick(&[0, 1, nodes + 1, nodes + 256, 258, 65_535]),
+        1 => numbers[1] = random.pick(&[nodes, nodes + 256, 255, 65_535]),
+        2 => numbers[2] = random.pick(&[2, 3, 255, 256, 257, 65_535]),
+        3 => numbers[3] = random.pick(&[nodes, nodes + 256, 255, 65_535]),
+        4 | 5 => resize(random, nodes, &mut board),
+        _ => {}
+    }
+    ("calls", hop_call(&board, numbers))
+}
+
+/// A record that no start made, with messages also from and to nodes that are
+/// not there, some of them falling, and moves of any messages in any order.
+fn moves(random: &mut Random, set: Set) -> (&'static str, Vec<u8>) {
+    let (nodes, mut board) = some_board(random, set);
+    if random.one_in(8) {
+        resize(random, nodes, &mut board);
+    }
+    let mut messages = some_messages(random, nodes);
+    for end in messages.iter_mut() {
+        if random.one_in(25) {
+            *end = random.pick(&[nodes as u8, nodes as u8 + 1, 64, 254, 255]);
+        }
+    }
+    match random.below(12) {
+        0 => messages.push(0),
+        1 => messages.resize(515, 1),
+        _ => {}
+    }
+    let classes = random_classes(random, messages.len() / 2);
+    let named = some_named(random, messages.len() / 2);
+    let count = match random.below(8) {
+        0 => random.pick(&[0, 1, nodes - 1, nodes + 1, 64, 65, nodes + 256, 65_535]),
+        _ => nodes,
+    };
+    let input = moves_call(count, &board, &messages, &classes, &named);
+    ("calls", input)
 }
 
 fn routes(random: &mut Random, set: Set) -> (&'static str, Vec<u8>) {
@@ -496,15 +562,19 @@ fn round(random: &mut Random, cabling: &Cabling, mut messages: Vec<u8>) -> Round
     if random.one_in(8) {
         damage(random, &mut messages);
     }
-    let count = messages.len() / 2;
+    let named = some_named(random, messages.len() / 2);
+    Round::new(&image, &messages, &named)
+}
+
+/// Messages that are to move, now and then one that is not there.
+fn some_named(random: &mut Random, count: usize) -> Vec<usize> {
     let most = 8 * count + 10;
-    let named: Vec<usize> = (0..random.between(0, most))
+    (0..random.between(0, most))
         .map(|_| match random.below(60) {
             0 => below_or_not(random, count),
             _ => random.below(count.max(1)),
         })
-        .collect();
-    Round::new(&image, &messages, &named)
+        .collect()
 }
 
 /// Several starts on one record, on the same network or another, two in three
@@ -553,7 +623,7 @@ fn trace(random: &mut Random, set: Set) -> (&'static str, Vec<u8>) {
 /// Calls cut short, with bytes left over, or with another selector.
 fn bad_call(random: &mut Random, set: Set) -> (&'static str, Vec<u8>) {
     let drawers = [
-        entry, walk, row, hop, routes, read, write, build, cable, sheet, steps, rounds,
+        entry, walk, row, hop, routes, read, write, build, cable, sheet, steps, rounds, moves,
     ];
     let (_, mut input) = random.pick(&drawers)(random, set);
     match random.below(5) {

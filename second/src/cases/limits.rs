@@ -20,7 +20,7 @@ pub fn cases() -> Vec<Case> {
     cases.extend(lengths_beyond_16_bits());
     cases.extend(long_calls());
     cases.extend(long_inputs());
-    cases.extend(rows_and_hops());
+    cases.extend(rows());
     cases.extend(buffers());
     for image in images_with_two_faults() {
         cases.extend(any_image("order", &image));
@@ -175,7 +175,6 @@ fn lengths_beyond_16_bits() -> Vec<Case> {
         let table = behind(&[0, 1, 0, 1], more);
         inputs.push(row_call(&table, &[0, 255, 0, 1], [2, 0, 0]));
         inputs.push(row_call(&[0, 1, 0, 1], &table, [2, 0, 0]));
-        inputs.push(hop_call(&table, &[0, 255, 0, 1], [2, 0, 0, 1]));
         inputs.push(write_call(4, 0, &behind(&pairs, more), 20));
         inputs.push(write_call(4, 1, &behind(&pairs, more), 80));
         let list = behind(&[0, 1, 1, 0], more);
@@ -229,40 +228,32 @@ fn long_inputs() -> Vec<Case> {
     ]
 }
 
-/// Row and hop with each argument at its limit, past it, and past a byte.
-fn rows_and_hops() -> Vec<Case> {
+/// Row with each argument at its limit, past it, and past a byte.
+fn rows() -> Vec<Case> {
     let mut inputs = Vec::new();
     for nodes in [2, 3, 64] {
         let free: Vec<u8> = (0..nodes * nodes).map(|i| i as u8).collect();
         let falling: Vec<u8> = free.iter().map(|byte| !byte).collect();
-        let mut both = |numbers: [usize; 4]| {
-            let [count, node, class, _] = numbers;
-            inputs.push(row_call(&free, &falling, [count, node, class]));
-            inputs.push(hop_call(&free, &falling, numbers));
-        };
-        let last = nodes - 1;
+        let mut row = |numbers| inputs.push(row_call(&free, &falling, numbers));
         for class in [0, 1, 2, 255, 256, 257, 65_535] {
-            both([nodes, last, class, last]);
+            row([nodes, nodes - 1, class]);
         }
-        for far in [nodes, 255, 256, 256 + last, 65_535] {
-            both([nodes, far, 0, 0]);
-            both([nodes, 0, 1, far]);
+        for far in [nodes, 255, 256, 255 + nodes, 65_535] {
+            row([nodes, far, 0]);
         }
         for count in [0, 1, nodes - 1, nodes + 1, 65, 256, 256 + nodes, 65_535] {
-            both([count, 0, 0, 0]);
+            row([count, 0, 0]);
         }
         let lengths = [0, nodes, nodes * nodes - 1, nodes * nodes - nodes];
         for length in lengths {
             let short = &free[..length];
             inputs.push(row_call(short, &falling, [nodes, 0, 1]));
             inputs.push(row_call(&falling, short, [nodes, 0, 0]));
-            inputs.push(hop_call(short, short, [nodes, 0, 0, 0]));
         }
     }
     for nodes in [0, 1, 65, 255] {
         let table = vec![0; nodes * nodes];
         inputs.push(row_call(&table, &table, [nodes, 0, 0]));
-        inputs.push(hop_call(&table, &table, [nodes, 0, 1, 0]));
     }
     let case = |input| Case::new("limits", "calls", input);
     inputs.into_iter().map(case).collect()

@@ -1,10 +1,12 @@
 //! The cases of the comparison: which program, which input. Fixed families
 //! are lists; the others are drawn, each case from seed and index alone.
 
+pub mod boards;
 pub mod cabling;
 pub mod damage;
 pub mod drawn;
 pub mod growing;
+pub mod hops;
 pub mod limits;
 pub mod pack;
 pub mod random;
@@ -48,6 +50,7 @@ pub fn fixed(set: Set) -> Vec<Case> {
     cases.extend(limits::cases());
     cases.extend(sheets::cases(set));
     cases.extend(restarts::cases());
+    cases.extend(hops::cases());
     cases
 }
 

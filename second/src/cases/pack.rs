@@ -4,6 +4,7 @@
 use super::cabling::Cabling;
 use super::random::Random;
 use super::Case;
+use crate::calls::accept;
 
 /// The input of `calls`, argument by argument.
 pub struct Pack {
@@ -61,10 +62,50 @@ pub fn row_call(free: &[u8], falling: &[u8], numbers: [usize; 3]) -> Vec<u8> {
     tables.numbers(&numbers).done()
 }
 
+/// What a switch has to hop by: labels and both tables, an image's or not.
+#[derive(Clone, Debug, PartialEq, Eq)]
+pub struct Board {
+    pub labels: Vec<u8>,
+    pub free: Vec<u8>,
+    pub falling: Vec<u8>,
+}
+
+impl Board {
+    pub fn new(labels: &[u8], free: &[u8], falling: &[u8]) -> Board {
+        Board {
+            labels: labels.to_vec(),
+            free: free.to_vec(),
+            falling: falling.to_vec(),
+        }
+    }
+
+    /// The cabling's own; it must be an accepted one.
+    pub fn of(cabling: &Cabling) -> Board {
+        let (fabric, _) = accept(&cabling.links_image()).expect("an accepted cabling");
+        let tables = &fabric.tables;
+        Board::new(&fabric.label_bytes(), &tables.free, &tables.falling)
+    }
+}
+
 /// Hop's numbers are N, node, class, destination.
-pub fn hop_call(free: &[u8], falling: &[u8], numbers: [usize; 4]) -> Vec<u8> {
-    let tables = Pack::call(3).bytes(free).bytes(falling);
-    tables.numbers(&numbers).done()
+pub fn hop_call(board: &Board, numbers: [usize; 4]) -> Vec<u8> {
+    let lent = Pack::call(3).bytes(&board.labels).bytes(&board.free);
+    lent.bytes(&board.falling).numbers(&numbers).done()
+}
+
+/// A record that no start made, its messages and their classes, and those
+/// that are to move in it.
+pub fn moves_call(
+    nodes: usize,
+    board: &Board,
+    list: &[u8],
+    classes: &[u8],
+    named: &[usize],
+) -> Vec<u8> {
+    let labels = Pack::call(12).number(nodes).bytes(&board.labels);
+    let tables = labels.bytes(&board.free).bytes(&board.falling);
+    let messages = tables.bytes(list).bytes(classes);
+    messages.number(named.len()).numbers(named).done()
 }
 
 pub fn route_call(image: &[u8], source: usize, destination: usize, room: usize) -> Vec<u8> {

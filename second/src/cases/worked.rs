@@ -23,6 +23,17 @@ pub fn ring_messages() -> Vec<u8> {
     list(&[(0, 2), (1, 3), (2, 0), (3, 1)])
 }
 
+/// The hops worked on the ring and on the hub: node, class, destination.
+pub fn hops(cabling: &Cabling) -> Vec<[usize; 3]> {
+    if *cabling == ring(4) {
+        vec![[0, 0, 2], [2, 0, 0], [1, 1, 0], [0, 1, 2], [3, 1, 3]]
+    } else if *cabling == star(3) {
+        vec![[1, 0, 3], [0, 0, 3]]
+    } else {
+        vec![]
+    }
+}
+
 pub fn cases() -> Vec<Case> {
     let mut cases = Vec::new();
     for cabling in networks() {

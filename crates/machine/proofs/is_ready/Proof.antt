@@ -1,40 +1,33 @@
 -- `machine::is_ready` meets its contract.
-use mathlib.Core.Path.{_≡_, _∙_, ap}
-use Prim.Native.Nat.{ℕ}
-use denote.Ref.{now}
-use lib.ListN.{getD}
 use Rattle.finite.specs.Truth.{same}
 use Rattle.finite.proofs.Truth.{eq-same, ne-same}
-use Rattle.messages.specs.Step.{nextIn, channel}
-use Rattle.messages.proofs.Ready.{in-never, in-there, in-next}
+use Rattle.hops.proofs.Cases.{other-none}
+use Rattle.messages.proofs.Ready.{in-never, in-there, in-astray, in-found}
+use borrow.Author.Needs.{needs}
 use Rattle.machine.proofs.is_ready.Statement.{statement}
 use Rattle.machine.proofs.is_ready.Tie as tie
 
 returns : tie.Need-returns
-returns c = in-never _ _ _ _ _ _ _ _ (ne-same (c .if1 .taken))
+returns c = in-never _ _ _ _ _ _ _ _ _ (ne-same (c .if1 .taken))
 
 returns-2 : tie.Need-returns-2
-returns-2 c = in-there _ _ _ _ _ _ _ _ (eq-same (c .before .if1 .left)) (eq-same (c .if2 .taken))
+returns-2 c = in-there _ _ _ _ _ _ _ _ _ (eq-same (c .before .if1 .left)) (eq-same (c .if2 .taken))
 
 returns-3 : tie.Need-returns-3
 unfolding same
 returns-3 c =
-    let n = c .before .before in
-    let t = n .before in
-    let m = t .before in
-    let a = m .before .before .before .before .args in
-    let e : c .held .result ≡ getD (now (a .holders)) (channel (a .head) (nextIn (a .nodes) (now (a .free)) (now (a .falling)) (a .head) (a .target) (a .class))) 0 =
-    let v = n .next-in .ensures in
-    cc in
-    ap (λ (x : ℕ). same x 0) e ∙ in-next _ _ _ _ _ _ _ _ (eq-same (m .if1 .left)) (ne-same (t .if2 .left))
+    let n = c .before .before .before in
+    let h = n .before .before in
+    in-found _ _ _ _ _ _ _ _ _ (eq-same (h .before .before .if1 .left)) (ne-same (h .before .if2 .left)) (h .ahead .ensures) (n .found .given .1)
+    (c .before .channel .ensures) (c .held .ensures)
+
+returns-4 : tie.Need-returns-4
+returns-4 c =
+    let h = c .before in
+    in-astray _ _ _ _ _ _ _ _ _ (eq-same (h .before .before .if1 .left)) (ne-same (h .before .if2 .left)) (h .ahead .ensures)
+    (other-none (h .ahead .result) (c .match .keys2))
 
 pub is-ready-spec : {M : Type 1} → statement M
 is-ready-spec =
     tie.close
-    (tie.spec
-    returns
-    returns-2
-    (λ c κs. tt)
-    (λ c κs. tt)
-    (λ c κs. tt)
-    returns-3)
+    (tie.spec returns returns-2 (λ c κs. search needs) (λ c. search needs) (λ c κs. search needs) (λ c κs. search needs) returns-3 returns-4)

@@ -1,8 +1,9 @@
 -- `machine::step_in` meets its contract: each return is a case of the definition.
 use mathlib.Core.Path.{sym, _∙_}
 use native.Mathlib.Omega.{arith}
+use Rattle.hops.proofs.Cases.{other-none}
 use Rattle.messages.specs.Step.{isDelivered}
-use Rattle.machine.proofs.InPlace.{refused-in, already-in, delivered-in, blocked-in, moved-in}
+use Rattle.machine.proofs.InPlace.{refused-in, already-in, delivered-in, astray-in, blocked-in, moved-in}
 use borrow.Author.Needs.{needs}
 use Rattle.machine.proofs.step_in.Statement.{statement}
 use Rattle.machine.proofs.step_in.Tie as tie
@@ -39,7 +40,8 @@ unfolding isDelivered
 returns-4 c =
     let o = c .before in
     let w = o .before .before in
-    let n = w .before in
+    let a = w .before .before in
+    let n = a .before .before in
     let k = n .before in
     let t = k .before .before in
     let g = t .before in
@@ -48,19 +50,19 @@ returns-4 c =
     let l = d .before .before .before in
     let f = l .before .few .ensures in
     blocked-in _ _ _ (let b = l .if1 .left in omega arith) (sym (d .before .marked .ensures) ∙ d .if2 .left) (h .byte .ensures) (g .byte2 .ensures)
-    (t .if3 .left) (k .byte3 .ensures) (n .next-in .ensures) (w .channel .ensures) (o .held .ensures) (c .if4 .taken)
+    (t .if3 .left) (k .byte3 .ensures) (n .ahead .ensures) (a .found .given .1) (w .channel .ensures) (o .held .ensures) (c .if4 .taken)
 
 returns-5 : tie.Need-returns-5
 unfolding isDelivered
 returns-5 c =
     let e = c .before .before .before in
-    let a = e .before in
-    let p = a .before .before .before .before in
+    let p = e .before .before .before .before in
     let q = p .before .before .before .before in
     let z = q .before .before in
     let o = z .before in
     let w = o .before .before in
-    let n = w .before in
+    let a = w .before .before in
+    let n = a .before .before in
     let k = n .before in
     let t = k .before .before in
     let g = t .before in
@@ -69,8 +71,22 @@ returns-5 c =
     let l = d .before .before .before in
     let f = l .before .few .ensures in
     moved-in _ _ _ (let b = l .if1 .left in omega arith) (sym (d .before .marked .ensures) ∙ d .if2 .left) (h .byte .ensures) (g .byte2 .ensures)
-    (t .if3 .left) (k .byte3 .ensures) (n .next-in .ensures) (w .channel .ensures) (o .held .ensures) (z .if4 .left) (c .count2 .ensures)
-    (a .class-after .ensures) (p .put2 .ensures) (e .put3 .ensures) (q .hold .ensures)
+    (t .if3 .left) (k .byte3 .ensures) (n .ahead .ensures) (a .found .given .1) (w .channel .ensures) (o .held .ensures) (z .if4 .left)
+    (c .count2 .ensures) (p .put2 .ensures) (e .put3 .ensures) (q .hold .ensures)
+
+returns-6 : tie.Need-returns-6
+unfolding isDelivered
+returns-6 c =
+    let n = c .before in
+    let k = n .before in
+    let t = k .before .before in
+    let g = t .before in
+    let h = g .before in
+    let d = h .before .before in
+    let l = d .before .before .before in
+    let f = l .before .few .ensures in
+    astray-in _ _ _ (let b = l .if1 .left in omega arith) (sym (d .before .marked .ensures) ∙ d .if2 .left) (h .byte .ensures) (g .byte2 .ensures)
+    (t .if3 .left) (k .byte3 .ensures) (n .ahead .ensures) (other-none (n .ahead .result) (c .match .keys2))
 
 pub step-in-spec : {M : Type 1} → statement M
 step-in-spec =
@@ -94,6 +110,7 @@ step-in-spec =
     returns-3
     (λ c κs. tt)
     (λ c κs. tt)
+    (λ c. search needs)
     (λ c κs. tt)
     (λ c κs. tt)
     (λ c. search needs)
@@ -109,9 +126,12 @@ step-in-spec =
     (λ c κs. tt)
     (λ c κs. tt)
     (λ c κs. tt)
-    (λ c κs. tt)
     (λ c. search needs)
     (λ c. search needs)
     (λ c. search needs)
     (λ c. search needs)
-    returns-5)
+    returns-5
+    (λ c. search needs)
+    (λ c. search needs)
+    (λ c. search needs)
+    returns-6)

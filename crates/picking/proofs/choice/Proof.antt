@@ -14,11 +14,11 @@ use Rattle.picking.proofs.choice.Statement.{statement}
 use Rattle.picking.proofs.choice.Tie as tie
 
 abbrev Inv-loop : tie.InvT-loop
-Inv-loop nodes messages free falling targets heads classes delivered holders look n k₀ k =
-    ((j : ℕ) → j < k → readyAt nodes free falling targets heads classes delivered holders (around n look j) ≡ false) × (k ≤ n) × (n ≡ min messages maxMessages)
+Inv-loop nodes messages labels free falling targets heads classes delivered holders look n k₀ k =
+    ((j : ℕ) → j < k → readyAt nodes labels free falling targets heads classes delivered holders (around n look j) ≡ false) × (k ≤ n) × (n ≡ min messages maxMessages)
 
 abbrev μ-loop : tie.MeasureT-loop
-μ-loop nodes messages free falling targets heads classes delivered holders look n k₀ k = n - k
+μ-loop nodes messages labels free falling targets heads classes delivered holders look n k₀ k = n - k
 
 loop-holds : tie.Need-loop-holds Inv-loop μ-loop
 loop-holds c = (below-none _, omega arith, c .few .ensures)
@@ -32,9 +32,9 @@ loop-of c = c .before .before .before .before .before .before
 -- what is asked of the message that is looked at
 asked : (c : tie.After-is-ready Inv-loop μ-loop)
     → let l = loop-of c in
-    let a = l .before .before .before .before .before .before .before .before .before .args in
+    let a = l .before .before .before .before .before .before .before .before .before .before .args in
     c .is-ready .result
-    ≡ readyAt (a .nodes) (now (a .free)) (now (a .falling)) (now (a .targets)) (now (a .heads)) (now (a .classes)) (now (a .delivered)) (now (a .holders))
+    ≡ readyAt (a .nodes) (now (a .labels)) (now (a .free)) (now (a .falling)) (now (a .targets)) (now (a .heads)) (now (a .classes)) (now (a .delivered)) (now (a .holders))
     (around (l .before .few .result) (a .look) (l .loop .k))
 asked c =
     let mark = c .before .byte4 .ensures in

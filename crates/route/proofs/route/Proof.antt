@@ -36,7 +36,7 @@ cast-followed-2 : tie.Need-cast-followed-2
 cast-followed-2 c = let o = image-fine (c .before .before .before) in omega arith
 
 followed-requires : tie.Need-followed-requires
-followed-requires c κs = let o = image-fine (c .before .before .before .before) in (o .few, omega arith)
+followed-requires c κs = let o = image-fine (c .before .before .before .before) in omega arith
 
 array-share-prefix-nodes : tie.Need-array-share-prefix-nodes
 array-share-prefix-nodes c = lays-front (c .before .followed .ensures) .1

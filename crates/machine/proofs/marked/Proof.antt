@@ -1,10 +1,10 @@
--- `machine::ahead::marked` meets its contract.
+-- `machine::marked` meets its contract.
 use mathlib.Core.Path.{_∙_, ap}
 use Prim.Native.Nat.{ℕ}
 use Rattle.finite.specs.Truth.{non, same}
 use Rattle.finite.proofs.Truth.{not-non}
-use Rattle.machine.proofs.ahead.marked.Statement.{statement}
-use Rattle.machine.proofs.ahead.marked.Tie as tie
+use Rattle.machine.proofs.marked.Statement.{statement}
+use Rattle.machine.proofs.marked.Tie as tie
 
 returns : tie.Need-returns
 unfolding same
