@@ -1,6 +1,6 @@
 -- Demand 2 (RULES 2.2): for every good cabling. Each premise `Writes ..`, `Reads ..`, `Cables ..` or `Sheets ..` is the promise of the call that the sentence
 -- names, whatever buffer was lent.
-use mathlib.Core.Path.{_≡_, sym, _∙_}
+use mathlib.Core.Path.{_≡_, sym, _∙_, fun-ext}
 use mathlib.Core.Bool.{Bool, true, false}
 use mathlib.Core.List.{List}
 use Prim.Native.Nat.{ℕ, _+_, _*_, _/_, _≤_, _<_}
@@ -11,7 +11,8 @@ use Rattle.lawful.specs.Turn.{labelIn}
 use Rattle.lawful.specs.Path.{LawfulTo, Shortest}
 use Rattle.cabling.specs.Cabling.{Cabling, cabled, Good, links}
 use Rattle.cabling.specs.Faults.{faultOf}
-use Rattle.hops.specs.Hop.{hopIn, walkBy}
+use Rattle.hops.specs.declared.HopAnswer.{HopAnswer}
+use Rattle.hops.specs.Hop.{walkBy}
 use Rattle.fabric.specs.Fabric.{labelsFor, labelFor, rowsFor, routeFor}
 use Rattle.fabric.proofs.Labels.{labels-length, good-by-rule, good-labels-unique}
 use Rattle.fabric.proofs.Rows.{good-free-rows, good-falling-rows, free-rows-unique, falling-rows-unique}
@@ -34,6 +35,7 @@ use Rattle.writing.proofs.Calls.{never-refused, build-as-write}
 use Rattle.sheets.specs.Sheet.{sheetOf, cablingOn}
 use Rattle.sheets.specs.Promises.{Cables, Sheets}
 use Rattle.sheets.proofs.Calls.{cable-never-refused, sheet-never-refused, cabled-sheet, sheet-again, image-again, one-sheet, cable-size, sheet-written-size}
+use Rattle.demands.specs.Calls.{Hop}
 use Rattle.demands.specs.Rules.{ByTheRule, Built}
 
 module _ (c : Cabling) (g : Good c) where
@@ -53,12 +55,13 @@ module _ (c : Cabling) (g : Good c) where
   demand-2-route s t a z = let r = good-route g s t a z in ((routeFor c s t, r .is), r)
 
   -- RULES 7.5: "Where they are an image's own, a message that asks hop at each node, free at first and then with the class that it was answered, walks its
-  -- route (5.4).": of any labels and tables by the rule the nodes that hop names are a shortest lawful path
+  -- route (5.4).": of any labels and tables by the rule, and any answers that hop's promise allows on them, the nodes that they name are a shortest lawful path
   pub demand-2-hop : {labels free falling : List ℕ} → ByTheRule c labels free falling → (s t : ℕ) → s < c .nodes → t < c .nodes
-      → Shortest (LawfulTo (links c) (labelIn labels) s t) (walkBy (λ v class. hopIn labels free falling (c .nodes) v class t) t (c .nodes + c .nodes) 0 s)
-  demand-2-hop r s t a z =
+      → (answers : ℕ → ℕ → HopAnswer) → ((v class : ℕ) → Hop (labels, (free, falling, c .nodes, v, class), t) tt (answers v class) tt)
+      → Shortest (LawfulTo (links c) (labelIn labels) s t) (walkBy answers t (c .nodes + c .nodes) 0 s)
+  demand-2-hop r s t a z answers h =
       let (x, y, w) = rule-unique r in
-      rw (x, y, w, good-walk g s t a z) (good-route g s t a z)
+      rw (fun-ext (λ v. fun-ext (h v)), x, y, w, good-walk g s t a z) (good-route g s t a z)
 
   module _ {before after : List ℕ} where
     -- RULES 2.2: "Connected cabling inside the limits, given room, is never refused.": build answers, with labels and entries by the rule

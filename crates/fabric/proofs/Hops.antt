@@ -3,27 +3,21 @@
 use mathlib.Core.Path.{_≡_, refl, sym, _∙_, ap, fun-ext}
 use mathlib.Core.Bool.{Bool, true, false}
 use mathlib.Core.List.{List}
-use Prim.Native.Nat.{ℕ, _+_, _*_, _≤_, _<_}
+use Prim.Native.Nat.{ℕ, _+_, _<_}
 use lib.ListN.{length, getD}
-use Rattle.finite.specs.Truth.{same}
-use Rattle.finite.proofs.Truth.{bcase, same-eq, same-ne}
 use Rattle.lawful.specs.Turn.{labelIn}
 use Rattle.lawful.specs.Entry.{entry, freeAfter, routeOf}
 use Rattle.lawful.proofs.Run.{Run}
 use Rattle.lawful.proofs.Paths.{WayTo, way-run}
 use Rattle.cabling.specs.Cabling.{Cabling, Good, links}
-use Rattle.hops.specs.Row.{RowFault, tableIn, rowIn}
+use Rattle.hops.specs.Row.{rowIn}
 use Rattle.hops.specs.Hop.{hopIn, hopWithin, walkBy}
 use Rattle.hops.specs.Tabled.{classOf}
 use Rattle.hops.specs.declared.HopAnswer.{HopAnswer}
 use Rattle.hops.specs.declared.HopAnswer.the-variants.{Next, NoWay}
-use Rattle.hops.proofs.Lookup.{Faultless, faulty, free-table, falling-table}
-use Rattle.hops.proofs.Meaning.{row-size, row-byte}
-use Rattle.hops.proofs.Leads.{within-fronts, hop-entry, hop-none, hop-home, walk-route}
-use Rattle.rows.proofs.Meaning.{rows-length}
+use Rattle.hops.proofs.Leads.{row-long, row-entry, within-fronts, hop-entry, hop-none, hop-home, walk-route}
 use Rattle.fabric.specs.Fabric.{labelsFor, labelFor, rowsFor, routeFor, fabricOf}
 use Rattle.fabric.proofs.Labels.{good-climbing}
-use Rattle.fabric.proofs.Rows.{good-row-at}
 use Rattle.fabric.proofs.Arrays.{label-read, good-tabled}
 use Rattle.fabric.proofs.Parts.{labels-part, free-part, falling-part}
 
@@ -45,32 +39,14 @@ module _ {c : Cabling} (g : Good c) where
 
   -- ---- one row
 
-  module _ (v class : ℕ) (node : v < n) (known : class ≤ 1) where
-    faultless : Faultless free falling n v class
-    faultless = record {
-      least = g .many;
-      most = g .few;
-      free-long = rows-length n n (links c) label true;
-      falling-long = rows-length n n (links c) label false;
-      node-low = node;
-      class-low = known;
-    }
+  module _ (class : Bool) (v : ℕ) (here : v < n) where
+    pub good-row-size : length (rowIn free falling n v (classOf class)) ≡ n
+    unfolding fabricOf
+    good-row-size = rw (free-part c refl, falling-part c refl) at (row-long (good-tabled g) class v here)
 
-    no-fault : RowFault free falling n v class → ⊥
-    no-fault f = faulty free falling n v class f faultless
-
-    pub good-row-size : length (rowIn free falling n v class) ≡ n
-    good-row-size = row-size free falling n v class no-fault
-
-    module _ (t : ℕ) (l : t < n) where
-      -- the byte of the table of the class
-      byte : getD (tableIn free falling class) (v * n + t) 0 ≡ entry n (links c) label t (same class 0) v
-      byte =
-          bcase (same class 0) (λ e. rw (free-table free falling class (same-eq _ _ e), e) (good-row-at g true v t node l))
-          (λ e. rw (falling-table free falling class (same-ne _ _ e), e) (good-row-at g false v t node l))
-
-      pub good-row-entry : getD (rowIn free falling n v class) t 0 ≡ entry n (links c) label t (same class 0) v
-      good-row-entry = row-byte free falling n v class no-fault t l ∙ byte
+    pub good-row-entry : (t : ℕ) → t < n → getD (rowIn free falling n v (classOf class)) t 0 ≡ entry n (links c) label t class v
+    unfolding fabricOf
+    good-row-entry t there = rw (free-part c refl, falling-part c refl, label-read c) at (row-entry (good-tabled g) class v here t there)
 
   -- ---- one hop
 

@@ -6,7 +6,7 @@ use mathlib.Core.List.{List, _∷_}
 use Prim.Native.Nat.{ℕ, zero, suc, _+_, _*_, _≤_, _<_, min}
 use native.Mathlib.Nat.{mul-le-mul, le-refl}
 use native.Mathlib.Omega.{arith}
-use lib.ListN.{getD, take, length-take}
+use lib.ListN.{length, getD, take, length-take}
 use lib.Seq.{getD-take, getD-drop}
 use Rattle.finite.specs.Truth.{same}
 use Rattle.finite.proofs.Truth.{bcase, same-eq, same-ne, eq-same, ne-same}
@@ -20,10 +20,10 @@ use Rattle.lawful.proofs.Routes.{Nearer, entry-nearer, follow-here, follow-ther
 use Rattle.nodes.specs.Limits.{maxNodes}
 use Rattle.hops.specs.declared.HopAnswer.{HopAnswer}
 use Rattle.hops.specs.declared.HopAnswer.the-variants.{Next, NoWay}
-use Rattle.hops.specs.Row.{rowKnown, tableIn}
-use Rattle.hops.specs.Hop.{storedIn, classAfter, onwardOf, hopIn, hopWithin, walkBy}
+use Rattle.hops.specs.Row.{rowKnown, tableIn, rowIn}
+use Rattle.hops.specs.Hop.{classAfter, onwardOf, hopIn, hopWithin, walkBy}
 use Rattle.hops.specs.Tabled.{classOf, Tabled}
-use Rattle.hops.proofs.Lookup.{faultless-known, row-known, free-table, falling-table}
+use Rattle.hops.proofs.Lookup.{faultless-known, row-known, row-length, free-table, falling-table}
 use Rattle.hops.proofs.Cases.{class-here, class-fall, class-free, onward-none, onward-next, hop-known, walk-here, walk-there}
 
 -- a class is 0 or 1, and 0 where it is free
@@ -57,7 +57,8 @@ module _ {n : ℕ} {edge : ℕ → ℕ → Bool} {labels free falling : List ℕ
   label-front : (v : ℕ) → v < n → labelIn labels-front v ≡ label v
   label-front v l = getD-take n labels v 0 l
 
-  module _ (class : Bool) (v t : ℕ) (here : v < n) (there : t < n) where
+  -- a row of a node is there, with the entry of its class for each destination
+  module _ (class : Bool) (v : ℕ) (here : v < n) where
     known : rowKnown free-front falling-front n v (classOf class) ≡ true
     known =
         let a = tabled .free-long in
@@ -71,22 +72,31 @@ module _ {n : ℕ} {edge : ℕ → ℕ → Bool} {labels free falling : List ℕ
           class-low = class-le class;
         })
 
-    inside : v * n + t < n * n
-    inside = let b : suc v * n ≤ n * n = mul-le-mul here (le-refl n) in omega arith
+    pub row-long : length (rowIn free-front falling-front n v (classOf class)) ≡ n
+    row-long = row-length free-front falling-front n v (classOf class) known
 
-    -- what is stored is the entry
-    at : (class : Bool) → getD (tableIn free-front falling-front (classOf class)) (v * n + t) 0 ≡ entry n edge label t class v
-    at true = rw (free-table free-front falling-front 0 refl) (getD-take (n * n) free (v * n + t) 0 inside ∙ tabled .free-rows v t here there)
-    at false = rw (falling-table free-front falling-front 1 (λ e. omega arith)) (getD-take (n * n) falling (v * n + t) 0 inside ∙ tabled .falling-rows v t here there)
+    module _ (t : ℕ) (there : t < n) where
+      inside : v * n + t < n * n
+      inside = let b : suc v * n ≤ n * n = mul-le-mul here (le-refl n) in omega arith
 
-    stored : storedIn free-front falling-front n v (classOf class) t ≡ entry n edge label t class v
-    stored = rw (row-known free-front falling-front n v (classOf class) known) (getD-take n _ t 0 there ∙ getD-drop (v * n) (tableIn free-front falling-front (classOf class)) t 0 ∙ at class)
+      at : (class : Bool) → getD (tableIn free-front falling-front (classOf class)) (v * n + t) 0 ≡ entry n edge label t class v
+      at true = rw (free-table free-front falling-front 0 refl) (getD-take (n * n) free (v * n + t) 0 inside ∙ tabled .free-rows v t here there)
+      at false =
+          rw (falling-table free-front falling-front 1 (λ e. omega arith))
+          (getD-take (n * n) falling (v * n + t) 0 inside ∙ tabled .falling-rows v t here there)
 
+      pub row-entry : getD (rowIn free-front falling-front n v (classOf class)) t 0 ≡ entry n edge label t class v
+      row-entry =
+          rw (row-known free-front falling-front n v (classOf class) known)
+          (getD-take n _ t 0 there ∙ getD-drop (v * n) (tableIn free-front falling-front (classOf class)) t 0 ∙ at class)
+
+  -- and hop makes of it what it makes of an entry
+  module _ (class : Bool) (v t : ℕ) (here : v < n) (there : t < n) where
     asked : hopWithin labels free falling n v (classOf class) t ≡ onwardOf labels-front n v (classOf class) t (entry n edge label t class v)
     asked =
         let long = tabled .labels-long in
-        within-fronts v (classOf class) t ∙ hop-known labels-front free-front falling-front n v (classOf class) t (record { row = known; there = there; labelled = length-take n labels ∙ omega arith })
-        ∙ ap (onwardOf labels-front n v (classOf class) t) stored
+        within-fronts v (classOf class) t ∙ hop-known labels-front free-front falling-front n v (classOf class) t (record { row = known class v here; there = there; labelled = length-take n labels ∙ omega arith })
+        ∙ ap (onwardOf labels-front n v (classOf class) t) (row-entry class v here t there)
 
     -- where no way of the class leads there: none
     pub hop-none : ((l : List ℕ) → WayTo edge label class v t l → ⊥) → hopWithin labels free falling n v (classOf class) t ≡ NoWay

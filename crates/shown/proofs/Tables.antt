@@ -4,7 +4,6 @@ use mathlib.Core.Bool.{true, false}
 use mathlib.Core.List.{List, [], _∷_}
 use Prim.Native.Nat.{ℕ, _/_, _<_}
 use lib.ListN.{length, getD}
-use lib.Dec.{lit≤}
 use Rattle.finite.specs.Truth.{same}
 use Rattle.finite.proofs.Lists.{tabulate-ext, padded-at}
 use Rattle.nodes.specs.Limits.{maxNodes}
@@ -43,4 +42,4 @@ module _ {c : Cabling} (g : Good c) where
   unfolding same
   row-made {v = v} x y l e =
       e ∙ ap₂ (λ (x y : List ℕ). rowIn x y n v 0) x y
-      ∙ tabulate-ext n _ 0 _ (good-row-size g v 0 l (lit≤ tt)) (good-row-entry g v 0 l (lit≤ tt))
+      ∙ tabulate-ext n _ 0 _ (good-row-size g true v l) (good-row-entry g true v l)
