@@ -4,7 +4,7 @@
 use crate::calls::{accept, Fabric};
 use crate::cases::cabling::{path, ring, Cabling};
 use crate::cases::pack::drain_input;
-use crate::cases::worked::{hops, listed, listed_sheets, networks, ring_messages};
+use crate::cases::worked::{hops, listed, listed_sheets, message_lists, networks};
 use crate::programs::{drain, drained, listed as numbers, sheet, show};
 use crate::refusal::Refusal;
 use crate::rows::{hop, Lent};
@@ -35,9 +35,9 @@ fn found(cabling: &Cabling) -> String {
     if by_hand {
         text += &format!("image{}\n", numbers(&links));
     }
-    if *cabling == ring(4) {
-        let input = drain_input(&links, 0, &ring_messages());
-        let run = drained(&input).expect("the ring's messages are drained");
+    for messages in message_lists(cabling) {
+        let input = drain_input(&links, 0, &messages);
+        let run = drained(&input).expect("messages of the network");
         text += &format!("{}\nlooks {}\n", run.last_line(), run.steps[0].0);
     }
     if by_hand {

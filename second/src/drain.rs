@@ -1,5 +1,5 @@
-//! The drain machine: a record of messages with their routes and of the
-//! channels that are held, its start, and the move of one message.
+//! The drain machine: a record of messages with the channels of their whole
+//! ways and of the channels that are held, its start, and the move of one message.
 
 use crate::calls::accept;
 use crate::network::pairs_of;
@@ -10,13 +10,27 @@ use std::collections::BTreeMap;
 /// The longest list of messages, in bytes.
 pub const LONGEST_LIST: usize = 512;
 
-/// One direction of a link: from, to.
-pub type Channel = (usize, usize);
+/// Where a channel of a node leads: over a link to the node named, into the
+/// network or out of it.
+#[derive(Clone, Copy, Debug, PartialEq, Eq, PartialOrd, Ord)]
+pub enum End {
+    To(usize),
+    In,
+    Out,
+}
+
+/// One direction of a link, or an injection or consumption channel. Channels
+/// are in order by node; of one node links come first, then In, then Out.
+#[derive(Clone, Copy, Debug, PartialEq, Eq, PartialOrd, Ord)]
+pub struct Channel {
+    pub node: usize,
+    pub end: End,
+}
 
 #[derive(Clone, Debug, PartialEq, Eq)]
 struct Message {
-    route: Vec<usize>,
-    at: usize,
+    way: Vec<Channel>,
+    taken: usize,
     delivered: bool,
 }
 
@@ -37,10 +51,41 @@ pub enum Answer {
     Delivered,
 }
 
+impl Channel {
+    /// The channel of a hop.
+    pub fn link(from: usize, to: usize) -> Channel {
+        let end = End::To(to);
+        Channel { node: from, end }
+    }
+
+    /// The injection channel of a node.
+    pub fn injection(node: usize) -> Channel {
+        let end = End::In;
+        Channel { node, end }
+    }
+
+    /// The consumption channel of a node.
+    pub fn consumption(node: usize) -> Channel {
+        let end = End::Out;
+        Channel { node, end }
+    }
+}
+
 impl Message {
+    /// A message that is to go along a route and has taken nothing.
+    fn along(route: &[usize]) -> Message {
+        let first = route.first().map(|&source| Channel::injection(source));
+        let hops = route.windows(2).map(|two| Channel::link(two[0], two[1]));
+        let last = route.last().map(|&end| Channel::consumption(end));
+        Message {
+            way: first.into_iter().chain(hops).chain(last).collect(),
+            taken: 0,
+            delivered: false,
+        }
+    }
+
     fn next_channel(&self) -> Option<Channel> {
-        let to = self.route.get(self.at + 1)?;
-        Some((self.route[self.at], *to))
+        self.way.get(self.taken).copied()
     }
 }
 
@@ -56,10 +101,9 @@ impl Record {
         if let Some(place) = ends.iter().position(|&(s, d)| s >= nodes || d >= nodes) {
             return Err(refusal(10, place));
         }
-        let message = |&(source, destination): &(usize, usize)| Message {
-            route: follow(&fabric.tables, &fabric.labels, source, destination),
-            at: 0,
-            delivered: false,
+        let message = |&(source, destination): &(usize, usize)| {
+            let route = follow(&fabric.tables, &fabric.labels, source, destination);
+            Message::along(&route)
         };
         *self = Record {
             messages: ends.iter().map(message).collect(),
@@ -84,7 +128,7 @@ impl Record {
         if let Some(&holder) = self.holders.get(&channel) {
             return Ok(Answer::Blocked(holder));
         }
-        message.at += 1;
+        message.taken += 1;
         self.holders.insert(channel, number);
         self.moves += 1;
         Ok(Answer::Moved)

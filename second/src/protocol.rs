@@ -1,7 +1,7 @@
 //! The program `calls`: one call out of a binary input, its answer as text.
 
 use crate::calls::{build, read, route, write};
-use crate::drain::{Answer, Channel, Record};
+use crate::drain::{Answer, Channel, End, Record};
 use crate::image::{entry, Entry, Walker};
 use crate::programs::{drained, listed, Writing};
 use crate::refusal::{refusal, Refusal};
@@ -242,9 +242,19 @@ fn lines_of(
     held: impl Iterator<Item = (Channel, usize)>,
 ) -> String {
     let delivered: String = delivered.map(|message| format!(" {message}")).collect();
-    let channel = |((from, to), message)| format!(" {from} {to} {message}");
-    let held: String = held.map(channel).collect();
+    let held: String = held.map(held_text).collect();
     format!("record {messages} {moves}\ndelivered{delivered}\nheld{held}\n")
+}
+
+/// A channel of the record's last line: its two nodes, or its word and its
+/// node; then the message that holds it.
+fn held_text((channel, message): (Channel, usize)) -> String {
+    let node = channel.node;
+    match channel.end {
+        End::To(far) => format!(" {node} {far} {message}"),
+        End::In => format!(" in {node} {message}"),
+        End::Out => format!(" out {node} {message}"),
+    }
 }
 
 /// Moves in a record that no start made, and its lines before and after.

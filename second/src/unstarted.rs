@@ -10,8 +10,18 @@ use std::collections::{BTreeMap, BTreeSet};
 /// The most messages that a record has.
 const MOST_MESSAGES: usize = 256;
 
+/// How far a message is: it has taken nothing, or its source's injection
+/// channel and any hops, or also its target's consumption channel.
+#[derive(Clone, Copy, Debug, PartialEq, Eq)]
+enum Stage {
+    Outside,
+    Inside,
+    Leaving,
+}
+
 #[derive(Clone, Copy, Debug, PartialEq, Eq)]
 struct Message {
+    stage: Stage,
     head: usize,
     class: usize,
     target: usize,
@@ -37,11 +47,12 @@ fn filled(bytes: &[u8], length: usize) -> Vec<u8> {
 }
 
 impl Unstarted {
-    /// Nothing is checked: each message stands at its source, its class is
-    /// the byte of its number, and a class that is not given is 0.
+    /// Nothing is checked: each message is at its source and has taken nothing,
+    /// its class is the byte of its number, and one that is not given is 0.
     pub fn new(given: &Lent, list: &[u8], classes: &[u8]) -> Unstarted {
         let table = MOST_NODES * MOST_NODES;
         let message = |((source, target), class)| Message {
+            stage: Stage::Outside,
             head: source,
             class: usize::from(class),
             target,
@@ -60,29 +71,48 @@ impl Unstarted {
         }
     }
 
-    /// Moves one message, if it can; where there is no such message, or hop
-    /// answers no node, that is a refusal and nothing changes.
+    /// Moves one message, if it can; where there is no such message, or no
+    /// channel comes next for it, that is a refusal and nothing changes.
     pub fn step(&mut self, number: usize) -> Result<Answer, Refusal> {
         let message = *self.messages.get(number).ok_or(refusal(10, 0))?;
         if self.delivered.contains(&number) {
             return Ok(Answer::Already);
         }
-        if message.head == message.target {
+        if message.stage == Stage::Leaving {
             self.delivered.insert(number);
             self.held.retain(|_, holder| *holder != number);
             self.moves += 1;
             return Ok(Answer::Delivered);
         }
-        let next = self.hop_of(message)?.ok_or(refusal(10, 0))?;
-        let channel = (message.head, next.node);
+        let (channel, after) = self.next_of(message)?;
         if let Some(&holder) = self.held.get(&channel) {
             return Ok(Answer::Blocked(holder));
         }
         self.held.insert(channel, number);
-        self.messages[number].head = next.node;
-        self.messages[number].class = next.class;
+        self.messages[number] = after;
         self.moves += 1;
         Ok(Answer::Moved)
+    }
+
+    /// The channel that comes next for a message that has not taken all, and
+    /// the message once it has taken it. Nodes from 64 on have no channels.
+    fn next_of(&self, message: Message) -> Result<(Channel, Message), Refusal> {
+        let head = message.head;
+        let mut after = message;
+        if message.stage == Stage::Outside {
+            after.stage = Stage::Inside;
+            let channel = Channel::injection(head);
+            let there = head < MOST_NODES;
+            return there.then_some((channel, after)).ok_or(refusal(10, 0));
+        }
+        if head == message.target {
+            after.stage = Stage::Leaving;
+            return Ok((Channel::consumption(head), after));
+        }
+        let next = self.hop_of(message)?.ok_or(refusal(10, 0))?;
+        after.head = next.node;
+        after.class = next.class;
+        Ok((Channel::link(head, next.node), after))
     }
 
     /// What hop says over the front of the record's labels and tables.

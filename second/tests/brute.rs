@@ -1,15 +1,17 @@
 //! Self-checks by brute force on random networks: cut nodes by deletion,
-//! labels by the rule's words, rows by all paths, drains in random orders.
+//! labels by the rule's words, rows by all paths, drains in random orders and
+//! in every order, messages that go one at a time into and out of a node.
 
 use second::calls::Fabric;
 use second::cases::cabling::*;
 use second::cases::growing::*;
-use second::cases::pack::random_list;
+use second::cases::pack::{list, random_list};
 use second::cases::random::Random;
 use second::drain::{Answer, Record};
 use second::label::{cut_nodes, prohibited};
 use second::network::Network;
 use second::rows::follow;
+use std::collections::BTreeSet;
 
 fn network(cabling: &Cabling) -> Network {
     Network::from_pairs(cabling.nodes, &cabling.pair_bytes()).expect("accepted")
@@ -254,19 +256,18 @@ fn drains_in_random_orders() {
             random.between(0, 60)
         };
         let list = random_list(cabling.nodes, count, &mut random);
-        let fabric = Fabric::new(network(&cabling));
-        let hops: usize = list
-            .chunks(2)
-            .map(|two| (usize::from(two[0]), usize::from(two[1])))
-            .map(|(s, d)| follow(&fabric.tables, &fabric.labels, s, d).len())
-            .sum();
-        let mut record = Record::default();
-        record
-            .start(&cabling.full_image(), &list)
-            .expect("accepted");
+        let watched = Watched::all(&cabling, &list);
+        let mut record = started(&cabling, &list);
         drain_in_any_order(&mut record, &mut random);
-        assert_eq!(record.moves(), hops);
+        assert_eq!(record.moves(), watched.iter().map(Watched::needed).sum());
     }
+}
+
+fn started(cabling: &Cabling, list: &[u8]) -> Record {
+    let mut record = Record::default();
+    let start = record.start(&cabling.full_image(), list);
+    start.expect("accepted");
+    record
 }
 
 /// Draws messages until all are delivered; a whole round without a move
@@ -289,5 +290,164 @@ fn drain_in_any_order(record: &mut Record, random: &mut Random) {
         });
         assert!(moved);
         assert_eq!(record.moves(), before + 1);
+    }
+}
+
+/// A message as it is seen from outside: its ends, its hops, and how many of
+/// its moves succeeded.
+struct Watched {
+    source: usize,
+    destination: usize,
+    hops: usize,
+    moves: usize,
+}
+
+impl Watched {
+    fn all(cabling: &Cabling, list: &[u8]) -> Vec<Watched> {
+        let fabric = Fabric::new(network(cabling));
+        let message = |two: &[u8]| {
+            let (source, destination) = (usize::from(two[0]), usize::from(two[1]));
+            let route = follow(&fabric.tables, &fabric.labels, source, destination);
+            Watched {
+                source,
+                destination,
+                hops: route.len() - 1,
+                moves: 0,
+            }
+        };
+        list.chunks(2).map(message).collect()
+    }
+
+    /// Into the network, the hops, out of it, and the delivery.
+    fn needed(&self) -> usize {
+        self.hops + 3
+    }
+
+    fn is_delivered(&self) -> bool {
+        self.moves == self.needed()
+    }
+
+    /// Whether it has taken its injection channel and is not delivered.
+    fn is_inside(&self) -> bool {
+        self.moves > 0 && !self.is_delivered()
+    }
+
+    /// Whether it has taken its consumption channel and is not delivered.
+    fn is_leaving(&self) -> bool {
+        self.moves == self.hops + 2
+    }
+
+    fn held(&self) -> usize {
+        if self.is_delivered() {
+            0
+        } else {
+            self.moves
+        }
+    }
+}
+
+/// One message at a time into and out of each node, and every channel taken
+/// is held, each by one message, until its message is delivered.
+fn check_one_at_a_time(watched: &[Watched], record: &Record, nodes: usize) {
+    for node in 0..nodes {
+        let inside = |m: &&Watched| m.is_inside() && m.source == node;
+        let leaving = |m: &&Watched| m.is_leaving() && m.destination == node;
+        assert!(watched.iter().filter(inside).count() <= 1);
+        assert!(watched.iter().filter(leaving).count() <= 1);
+    }
+    for (number, message) in watched.iter().enumerate() {
+        let held = record.held().filter(|&(_, holder)| holder == number);
+        assert_eq!(held.count(), message.held());
+    }
+    let all = watched.iter().map(|m| m.moves).sum();
+    assert_eq!(record.moves(), all);
+}
+
+/// Tries a message; whether it moved. An answer other than the one that its
+/// moves so far call for is a mistake, and so is a holder that holds nothing.
+fn try_watched(watched: &mut [Watched], record: &mut Record, number: usize) -> bool {
+    let answer = record.step(number).expect("there");
+    match answer {
+        Answer::Already => assert!(watched[number].is_delivered()),
+        Answer::Moved => assert!(watched[number].moves < watched[number].hops + 2),
+        Answer::Delivered => assert!(watched[number].is_leaving()),
+        Answer::Blocked(by) => assert!(by != number && watched[by].is_inside()),
+    }
+    let moved = matches!(answer, Answer::Moved | Answer::Delivered);
+    watched[number].moves += usize::from(moved);
+    moved
+}
+
+#[test]
+fn one_message_at_a_time_into_and_out_of_a_node() {
+    let mut random = Random::new(17);
+    for round in 0..600 {
+        let cabling = some_network(&mut random, 8);
+        let count = random.between(1, 24);
+        let list = random_list(cabling.nodes, count, &mut random);
+        let mut watched = Watched::all(&cabling, &list);
+        let mut record = started(&cabling, &list);
+        let mut order: Vec<usize> = (0..count).collect();
+        while !watched.iter().all(Watched::is_delivered) {
+            if round % 3 != 0 || random.one_in(5) {
+                random.shuffle(&mut order);
+            }
+            let mut tried = order.iter();
+            assert!(tried.any(|&m| try_watched(&mut watched, &mut record, m)));
+            check_one_at_a_time(&watched, &record, cabling.nodes);
+        }
+        assert!(record.all_delivered());
+        assert_eq!(record.held().count(), 0);
+        assert_eq!(record.moves(), watched.iter().map(Watched::needed).sum());
+    }
+}
+
+/// All pairs of nodes, a node and itself among them.
+fn all_ends(nodes: usize) -> Vec<(usize, usize)> {
+    let from = |s: usize| (0..nodes).map(move |d| (s, d));
+    (0..nodes).flat_map(from).collect()
+}
+
+/// Goes through all that moves lead to, by the moves of each message: some
+/// message can move until all are delivered.
+fn check_every_order(record: Record, needed: &[usize]) {
+    let start = vec![0; needed.len()];
+    let mut seen = BTreeSet::from([start.clone()]);
+    let mut left = vec![(start, record)];
+    while let Some((moves, record)) = left.pop() {
+        assert_eq!(record.all_delivered(), moves == needed);
+        let mut some = false;
+        for number in 0..needed.len() {
+            let mut next = record.clone();
+            let answer = next.step(number).expect("there");
+            if !matches!(answer, Answer::Moved | Answer::Delivered) {
+                assert_eq!(next, record);
+                continue;
+            }
+            some = true;
+            let mut further = moves.clone();
+            further[number] += 1;
+            if seen.insert(further.clone()) {
+                left.push((further, next));
+            }
+        }
+        assert!(some || moves == needed);
+    }
+}
+
+#[test]
+fn every_order_of_three_messages() {
+    for cabling in [path(2), path(3), complete(3), ring(4)] {
+        let ends = all_ends(cabling.nodes);
+        for &first in &ends {
+            for &second in &ends {
+                for &third in &ends {
+                    let list = list(&[first, second, third]);
+                    let watched = Watched::all(&cabling, &list);
+                    let needed: Vec<usize> = watched.iter().map(Watched::needed).collect();
+                    check_every_order(started(&cabling, &list), &needed);
+                }
+            }
+        }
     }
 }

@@ -8,7 +8,7 @@ use second::cases::pack::{list, random_list, Board};
 use second::cases::random::Random;
 use second::cases::turning::random_turning;
 use second::cases::Set;
-use second::drain::{Answer, Record};
+use second::drain::{Answer, Channel, Record};
 use second::refusal::{refusal, Refusal};
 use second::rows::{hop, Lent, Next};
 use second::unstarted::Unstarted;
@@ -189,7 +189,7 @@ fn a_walk_by_hop_is_the_route() {
 }
 
 /// All that a record shows.
-type Seen = (usize, usize, Vec<usize>, Vec<((usize, usize), usize)>);
+type Seen = (usize, usize, Vec<usize>, Vec<(Channel, usize)>);
 
 fn seen(record: &Unstarted) -> Seen {
     let (messages, moves) = (record.messages(), record.moves());
@@ -226,7 +226,7 @@ fn over_an_image_it_moves_as_after_a_start() {
         start.expect("accepted");
         let board = Board::of(&cabling);
         let mut record = Unstarted::new(&lent(&board, cabling.nodes), &messages, &[]);
-        for _ in 0..12 * count {
+        for _ in 0..30 * count {
             let message = random.below(count + 1);
             assert_eq!(record.step(message), started.step(message));
             let (_, moves, delivered, held) = seen(&record);
@@ -246,15 +246,81 @@ fn moves_that_are_refused_change_nothing() {
     tables.free[4 + 3] = 4;
     let board = Board::new(&[1, 2, 3, 4], &tables.free, &tables.falling);
     let mut record = Unstarted::new(&lent(&board, 4), &messages, &[0, 0]);
-    assert_eq!(record.step(0), Ok(Answer::Moved));
+    moves(&mut record, &[0, 1, 2, 3, 0]);
     let before = record.clone();
-    for number in [0, 1, 2, 3, 5, 256] {
+    for number in [0, 1, 2, 3, 4, 5, 256] {
         assert_eq!(record.step(number), Err(refusal(10, 0)));
         assert_eq!(record, before);
     }
-    assert_eq!(record.step(4), Ok(Answer::Delivered));
-    assert_eq!(record.step(4), Ok(Answer::Already));
-    assert_eq!(seen(&record), (5, 2, vec![4], vec![((2, 1), 0)]));
+    let held = vec![
+        (Channel::injection(0), 1),
+        (Channel::injection(1), 3),
+        (Channel::link(2, 1), 0),
+        (Channel::injection(2), 0),
+        (Channel::injection(9), 2),
+    ];
+    assert_eq!(seen(&record), (5, 5, vec![], held));
+}
+
+/// Each of these messages takes a channel, one after the other.
+fn moves(record: &mut Unstarted, named: &[usize]) {
+    for &number in named {
+        assert_eq!(record.step(number), Ok(Answer::Moved));
+    }
+}
+
+#[test]
+fn nodes_from_64_on_have_no_channels() {
+    let board = Board::of(&ring(4));
+    for (nodes, class) in [(4, 0), (4, 255), (64, 0), (65, 1), (0, 0)] {
+        let mut messages = list(&[(64, 64), (64, 0), (65, 63), (255, 255), (128, 128)]);
+        messages.extend(list(&[(63, 63), (0, 64), (1, 255)]));
+        let mut record = Unstarted::new(&lent(&board, nodes), &messages, &[class; 8]);
+        let before = record.clone();
+        for number in 0..5 {
+            assert_eq!(record.step(number), Err(refusal(10, 0)));
+            assert_eq!(record, before);
+        }
+        moves(&mut record, &[5, 5]);
+        assert_eq!(record.step(5), Ok(Answer::Delivered));
+        for number in [6, 7] {
+            moves(&mut record, &[number]);
+            assert_eq!(record.step(number), Err(refusal(10, 0)));
+        }
+        let held = vec![(Channel::injection(0), 6), (Channel::injection(1), 7)];
+        assert_eq!(seen(&record), (8, 5, vec![5], held));
+    }
+}
+
+#[test]
+fn nodes_not_there_have_channels_below_64() {
+    let board = Board::of(&ring(4));
+    let messages = list(&[(5, 5), (5, 5), (5, 0)]);
+    let mut record = Unstarted::new(&lent(&board, 4), &messages, &[]);
+    moves(&mut record, &[0, 0]);
+    assert_eq!(record.step(1), Ok(Answer::Blocked(0)));
+    let held = vec![(Channel::injection(5), 0), (Channel::consumption(5), 0)];
+    assert_eq!(seen(&record), (3, 2, vec![], held));
+    assert_eq!(record.step(0), Ok(Answer::Delivered));
+    moves(&mut record, &[1, 1]);
+    assert_eq!(record.step(2), Ok(Answer::Blocked(1)));
+    assert_eq!(record.step(1), Ok(Answer::Delivered));
+    moves(&mut record, &[2]);
+    assert_eq!(record.step(2), Err(refusal(10, 0)));
+    let held = vec![(Channel::injection(5), 2)];
+    assert_eq!(seen(&record), (3, 7, vec![0, 1], held));
+}
+
+#[test]
+fn a_hop_that_stays_takes_neither_channel_of_the_node() {
+    let board = Board::new(&[5; 3], &[9, 9, 0, 9, 9, 9, 9, 9, 9], &[255; 9]);
+    let messages = list(&[(0, 2), (0, 0)]);
+    let mut record = Unstarted::new(&lent(&board, 3), &messages, &[]);
+    moves(&mut record, &[0, 0]);
+    assert_eq!(record.step(0), Ok(Answer::Blocked(0)));
+    assert_eq!(record.step(1), Ok(Answer::Blocked(0)));
+    let held = vec![(Channel::link(0, 0), 0), (Channel::injection(0), 0)];
+    assert_eq!(seen(&record), (2, 2, vec![], held));
 }
 
 #[test]
@@ -262,20 +328,29 @@ fn a_message_meets_itself_and_others() {
     let round = [9, 9, 1, 9, 9, 0, 9, 9, 9];
     let board = Board::new(&[5, 5, 5], &round, &[255; 9]);
     let mut record = Unstarted::new(&lent(&board, 3), &list(&[(0, 2), (1, 2)]), &[]);
-    assert_eq!(record.step(0), Ok(Answer::Moved));
-    assert_eq!(record.step(0), Ok(Answer::Moved));
+    moves(&mut record, &[0, 0, 0]);
     assert_eq!(record.step(0), Ok(Answer::Blocked(0)));
+    moves(&mut record, &[1]);
     assert_eq!(record.step(1), Ok(Answer::Blocked(0)));
-    let held = vec![((0, 1), 0), ((1, 0), 0)];
-    assert_eq!(seen(&record), (2, 2, vec![], held));
+    let held = vec![
+        (Channel::link(0, 1), 0),
+        (Channel::injection(0), 0),
+        (Channel::link(1, 0), 0),
+        (Channel::injection(1), 1),
+    ];
+    assert_eq!(seen(&record), (2, 4, vec![], held));
     let falls = Board::new(&[5, 4, 5], &round, &[9, 9, 9, 9, 9, 2, 9, 9, 9]);
     let mut record = Unstarted::new(&lent(&falls, 3), &list(&[(0, 2)]), &[0]);
-    assert_eq!(record.step(0), Ok(Answer::Moved));
-    assert_eq!(record.step(0), Ok(Answer::Moved));
-    let held = vec![((0, 1), 0), ((1, 2), 0)];
-    assert_eq!(seen(&record), (1, 2, vec![], held));
+    moves(&mut record, &[0, 0, 0, 0]);
+    let held = vec![
+        (Channel::link(0, 1), 0),
+        (Channel::injection(0), 0),
+        (Channel::link(1, 2), 0),
+        (Channel::consumption(2), 0),
+    ];
+    assert_eq!(seen(&record), (1, 4, vec![], held));
     assert_eq!(record.step(0), Ok(Answer::Delivered));
-    assert_eq!(seen(&record), (1, 3, vec![0], vec![]));
+    assert_eq!(seen(&record), (1, 5, vec![0], vec![]));
 }
 
 #[test]
@@ -283,56 +358,82 @@ fn any_labels_tables_and_lists_are_taken() {
     let empty = Board::new(&[], &[], &[]);
     let mut record = Unstarted::new(&lent(&empty, 64), &[63, 1, 7], &[]);
     assert_eq!(record.messages(), 1);
-    assert_eq!(record.step(0), Ok(Answer::Moved));
-    assert_eq!(record.held().collect::<Vec<_>>(), [((63, 0), 0)]);
+    moves(&mut record, &[0, 0]);
+    let held = [(Channel::link(63, 0), 0), (Channel::injection(63), 0)];
+    assert_eq!(record.held().collect::<Vec<_>>(), held);
     for nodes in [0, 1, 65, 258, 65_535] {
         let mut record = Unstarted::new(&lent(&empty, nodes), &[0, 1, 3, 3], &[]);
+        moves(&mut record, &[0, 1, 1]);
         assert_eq!(record.step(0), Err(refusal(10, 0)));
         assert_eq!(record.step(1), Ok(Answer::Delivered));
     }
     let long = Board::new(&[3; 70], &[1; 5_000], &[1; 5_000]);
     let mut record = Unstarted::new(&lent(&long, 2), &[0; 600], &[2; 300]);
     assert_eq!(record.messages(), 256);
+    moves(&mut record, &[255, 255]);
     assert_eq!(record.step(255), Ok(Answer::Delivered));
     assert_eq!(record.step(256), Err(refusal(10, 0)));
     let mut record = Unstarted::new(&lent(&long, 2), &[0, 1], &[0; 300]);
-    assert_eq!(record.step(0), Ok(Answer::Moved));
+    moves(&mut record, &[0, 0, 0]);
+    assert_eq!(record.step(0), Ok(Answer::Delivered));
 }
 
 #[test]
 fn a_falling_message_takes_the_falling_rows() {
     let (free, falling) = ([9, 9, 1, 9, 9, 2, 9, 9, 9], [9, 9, 2, 9, 9, 0, 9, 9, 9]);
     let board = Board::new(&[1, 2, 3], &free, &falling);
-    let messages = list(&[(0, 2), (1, 2), (0, 2), (1, 2)]);
+    let messages = list(&[(0, 2), (1, 2)]);
     let mut record = Unstarted::new(&lent(&board, 3), &messages, &[1, 1]);
-    for number in [0, 1, 2, 3] {
-        assert_eq!(record.step(number), Ok(Answer::Moved));
-    }
-    let held = vec![((0, 1), 2), ((0, 2), 0), ((1, 0), 1), ((1, 2), 3)];
-    assert_eq!(seen(&record), (4, 4, vec![], held));
+    moves(&mut record, &[0, 1, 0, 1]);
+    let held = vec![
+        (Channel::link(0, 2), 0),
+        (Channel::injection(0), 0),
+        (Channel::link(1, 0), 1),
+        (Channel::injection(1), 1),
+    ];
+    assert_eq!(seen(&record), (2, 4, vec![], held));
+    assert_eq!(record.step(1), Ok(Answer::Blocked(0)));
+    moves(&mut record, &[0]);
     assert_eq!(record.step(1), Ok(Answer::Blocked(0)));
     assert_eq!(record.step(0), Ok(Answer::Delivered));
-    assert_eq!(record.step(1), Ok(Answer::Moved));
-    assert_eq!(record.step(2), Ok(Answer::Blocked(3)));
+    moves(&mut record, &[1, 1]);
+    assert_eq!(record.step(1), Ok(Answer::Delivered));
+    let mut record = Unstarted::new(&lent(&board, 3), &messages, &[]);
+    moves(&mut record, &[0, 1, 0, 1]);
+    let held = vec![
+        (Channel::link(0, 1), 0),
+        (Channel::injection(0), 0),
+        (Channel::link(1, 2), 1),
+        (Channel::injection(1), 1),
+    ];
+    assert_eq!(seen(&record), (2, 4, vec![], held));
+    assert_eq!(record.step(0), Ok(Answer::Blocked(1)));
 }
 
 #[test]
-fn a_message_of_no_class_is_refused_or_delivered() {
+fn a_message_of_no_class_is_refused_where_it_has_a_hop_to_go() {
     let board = pair(&[1, 2], 1);
-    let messages = list(&[(0, 1), (1, 1), (0, 1), (200, 200), (0, 1)]);
+    let messages = list(&[(0, 1), (1, 1), (0, 1), (200, 200), (0, 1), (9, 9)]);
     for class in [2, 3, 128, 255] {
-        let classes = [class, class, 0, class];
+        let classes = [class, class, 0, class, 0, class];
         let mut record = Unstarted::new(&lent(&board, 2), &messages, &classes);
+        moves(&mut record, &[2]);
+        assert_eq!(record.step(0), Ok(Answer::Blocked(2)));
+        moves(&mut record, &[2, 2]);
+        assert_eq!(record.step(2), Ok(Answer::Delivered));
+        moves(&mut record, &[0]);
         let before = record.clone();
         assert_eq!(record.step(0), Err(refusal(10, 0)));
+        assert_eq!(record.step(3), Err(refusal(10, 0)));
         assert_eq!(record, before);
-        assert_eq!(record.step(2), Ok(Answer::Moved));
-        assert_eq!(record.step(4), Ok(Answer::Blocked(2)));
-        assert_eq!(record.step(0), Err(refusal(10, 0)));
-        assert_eq!(record.step(1), Ok(Answer::Delivered));
-        assert_eq!(record.step(3), Ok(Answer::Delivered));
-        assert_eq!(record.step(1), Ok(Answer::Already));
-        assert_eq!(seen(&record), (5, 3, vec![1, 3], vec![((0, 1), 2)]));
+        assert_eq!(record.step(4), Ok(Answer::Blocked(0)));
+        for number in [1, 5] {
+            moves(&mut record, &[number, number]);
+            assert_eq!(record.step(number), Ok(Answer::Delivered));
+            assert_eq!(record.step(number), Ok(Answer::Already));
+        }
+        let held = vec![(Channel::injection(0), 0)];
+        assert_eq!(seen(&record), (6, 11, vec![1, 2, 5], held));
     }
 }
 
@@ -340,20 +441,23 @@ fn a_message_of_no_class_is_refused_or_delivered() {
 fn the_classes_are_256() {
     let board = Board::new(&[1, 2], &[1; 4], &[255; 4]);
     let messages = [0, 1].repeat(256);
+    let first_hop = |classes: &[u8], number: usize| {
+        let mut record = Unstarted::new(&lent(&board, 2), &messages, classes);
+        moves(&mut record, &[number]);
+        record.step(number)
+    };
     for length in [0, 1, 255, 256, 257, 300] {
         let classes = vec![1; length];
         for number in [0, 1, 254, 255] {
-            let mut record = Unstarted::new(&lent(&board, 2), &messages, &classes);
             let expected = match number < length {
                 true => Err(refusal(10, 0)),
                 false => Ok(Answer::Moved),
             };
-            assert_eq!(record.step(number), expected);
+            assert_eq!(first_hop(&classes, number), expected);
         }
         let mut last = vec![0; length];
         last.extend([1]);
-        let mut record = Unstarted::new(&lent(&board, 2), &messages, &last);
-        assert_eq!(record.step(0).is_ok(), length != 0);
-        assert_eq!(record.step(255).is_ok(), length != 255);
+        assert_eq!(first_hop(&last, 0).is_ok(), length != 0);
+        assert_eq!(first_hop(&last, 255).is_ok(), length != 255);
     }
 }

@@ -49,18 +49,20 @@ fn hops() {
 #[test]
 fn moves_without_a_start() {
     let board = Board::of(&ring(4));
-    let messages = list(&[(0, 2), (0, 1), (9, 9), (9, 0)]);
-    let mut input = moves_call(4, &board, &messages, &[0], &[0, 1, 2, 2, 3, 4]);
-    let lines = "record 4 0\ndelivered\nheld\n\
-        moved\nblocked 0\ndelivered\nalready\nrefused 10 0\nrefused 10 0\n\
-        record 4 2\ndelivered 2\nheld 0 1 0\n";
+    let messages = list(&[(0, 2), (0, 1), (9, 9), (9, 0), (64, 64)]);
+    let named = [0, 1, 2, 3, 2, 2, 2, 3, 3, 4, 5, 0];
+    let mut input = moves_call(4, &board, &messages, &[0], &named);
+    let lines = "record 5 0\ndelivered\nheld\n\
+        moved\nblocked 0\nmoved\nblocked 2\nmoved\ndelivered\nalready\n\
+        moved\nrefused 10 0\nrefused 10 0\nrefused 10 0\nmoved\n\
+        record 5 6\ndelivered 2\nheld 0 1 0 in 0 0 in 9 3\n";
     assert_eq!(text(&input), lines);
     let none = format!("{BLANK}{BLANK}");
     assert_eq!(text(&moves_call(65_535, &board, &[7], &[5], &[])), none);
-    let classes = moves_call(4, &board, &messages, &[1, 0, 2, 1], &[0, 1, 2, 0]);
-    let lines = "record 4 0\ndelivered\nheld\n\
-        refused 10 0\nmoved\ndelivered\nrefused 10 0\n\
-        record 4 2\ndelivered 2\nheld 0 1 1\n";
+    let classes = moves_call(4, &board, &messages, &[1, 0, 2, 1], &[0, 0, 1, 2, 2]);
+    let lines = "record 5 0\ndelivered\nheld\n\
+        moved\nrefused 10 0\nblocked 0\nmoved\nmoved\n\
+        record 5 3\ndelivered\nheld in 0 0 in 9 2 out 9 2\n";
     assert_eq!(text(&classes), lines);
     for length in 0..input.len() {
         assert_eq!(text(&input[..length]), "bad call\n");
@@ -132,10 +134,10 @@ const BLANK: &str = "record 0 0\ndelivered\nheld\n";
 fn steps_and_traces() {
     let image = ring(4).links_image();
     let list = list(&[(0, 2), (0, 1), (3, 3)]);
-    let steps = steps_call(&image, &list, &[0, 1, 2, 2, 3]);
+    let steps = steps_call(&image, &list, &[0, 1, 2, 2, 2, 2, 3, 0]);
     let lines = "started\nrecord 3 0\ndelivered\nheld\n\
-        moved\nblocked 0\ndelivered\nalready\nrefused 10 0\n\
-        record 3 2\ndelivered 2\nheld 0 1 0\n";
+        moved\nblocked 0\nmoved\nmoved\ndelivered\nalready\nrefused 10 0\nmoved\n\
+        record 3 5\ndelivered 2\nheld 0 1 0 in 0 0\n";
     assert_eq!(text(&steps), lines);
     let refused = format!("refused 11 0\n{BLANK}refused 10 0\n{BLANK}");
     assert_eq!(text(&steps_call(&image, &[1], &[0])), refused);
@@ -147,19 +149,37 @@ fn steps_and_traces() {
 }
 
 #[test]
+fn held_channels_by_node() {
+    let messages = list(&[(0, 2), (1, 0), (2, 1)]);
+    let named = [0, 0, 0, 0, 1, 1, 1, 2, 2, 2];
+    let steps = steps_call(&path(3).links_image(), &messages, &named);
+    let last = "record 3 10\ndelivered\n\
+        held 0 1 0 in 0 0 out 0 1 1 0 1 1 2 0 in 1 1 out 1 2 2 1 2 in 2 2 out 2 0\n";
+    let lines = format!(
+        "started\nrecord 3 0\ndelivered\nheld\n{}{last}",
+        "moved\n".repeat(10)
+    );
+    assert_eq!(text(&steps), lines);
+}
+
+#[test]
 fn starts_on_a_used_record() {
     let image = ring(4).links_image();
     let two = list(&[(0, 2), (3, 3)]);
-    let first = Round::new(&image, &two, &[0, 1]);
-    let refused = Round::new(&image, &[0, 4], &[0, 0, 0]);
-    let last = Round::new(&image, &list(&[(0, 1)]), &[0]);
+    let first = Round::new(&image, &two, &[0, 0, 1, 1, 1]);
+    let refused = Round::new(&image, &[0, 4], &[0, 0, 0, 0]);
+    let third = Round::new(&image, &list(&[(0, 1)]), &[0]);
+    let last = Round::new(&image, &list(&[(0, 1)]), &[0, 0]);
     let lines = "started\nrecord 2 0\ndelivered\nheld\n\
-        moved\ndelivered\nrecord 2 2\ndelivered 1\nheld 0 1 0\n\
-        refused 10 0\nrecord 2 2\ndelivered 1\nheld 0 1 0\n\
-        moved\ndelivered\nalready\nrecord 2 4\ndelivered 0 1\nheld\n\
+        moved\nmoved\nmoved\nmoved\ndelivered\n\
+        record 2 5\ndelivered 1\nheld 0 1 0 in 0 0\n\
+        refused 10 0\nrecord 2 5\ndelivered 1\nheld 0 1 0 in 0 0\n\
+        moved\nmoved\ndelivered\nalready\nrecord 2 8\ndelivered 0 1\nheld\n\
         started\nrecord 1 0\ndelivered\nheld\n\
-        moved\nrecord 1 1\ndelivered\nheld 0 1 0\n";
-    let mut input = rounds_call(&[first, refused, last]);
+        moved\nrecord 1 1\ndelivered\nheld in 0 0\n\
+        started\nrecord 1 0\ndelivered\nheld\n\
+        moved\nmoved\nrecord 1 2\ndelivered\nheld 0 1 0 in 0 0\n";
+    let mut input = rounds_call(&[first, refused, third, last]);
     assert_eq!(text(&input), lines);
     input.pop();
     assert_eq!(text(&input), "bad call\n");

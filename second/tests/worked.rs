@@ -4,7 +4,7 @@ use second::calls::{accept, build, read, write, Fabric, Read};
 use second::cases::cabling::*;
 use second::cases::pack::{drain_input, full_length, list, trace_call};
 use second::cases::worked::ring_messages;
-use second::drain::{Answer, Record};
+use second::drain::{Answer, Channel, Record};
 use second::image::{entry, Walker};
 use second::label::prohibited;
 use second::programs::{drain, drained, run, show};
@@ -91,14 +91,14 @@ fn the_network_of_26_nodes() {
 fn messages_on_the_ring() {
     for seed in 0..200 {
         let input = drain_input(&ring(4).links_image(), seed, &ring_messages());
-        assert_eq!(drain(&input), b"drained 4 12\n");
+        assert_eq!(drain(&input), b"drained 4 20\n");
     }
     let input = drain_input(&ring(4).full_image(), 0, &ring_messages());
     let run = drained(&input).expect("accepted");
     assert_eq!(run.steps[0], (2, 2));
-    assert_eq!(run.steps.len(), 12);
+    assert_eq!(run.steps.len(), 20);
     let traced = second::protocol::calls(&trace_call(&input));
-    assert!(traced.starts_with(b"2 2\n") && traced.ends_with(b"\ndrained 4 12\n"));
+    assert!(traced.starts_with(b"2 2\n") && traced.ends_with(b"\ndrained 4 20\n"));
 }
 
 #[test]
@@ -110,16 +110,125 @@ fn moves_one_by_one() {
     assert_eq!(record.step(0), Ok(Answer::Moved));
     assert_eq!(record.step(1), Ok(Answer::Blocked(0)));
     assert_eq!(record.step(2), Ok(Answer::Moved));
+    assert_eq!(record.step(3), Ok(Answer::Moved));
+    assert_eq!(record.step(3), Ok(Answer::Moved));
     assert_eq!(record.step(3), Ok(Answer::Delivered));
     assert_eq!(record.step(3), Ok(Answer::Already));
-    assert_eq!(record.step(0), Ok(Answer::Moved));
+    assert_eq!(tries(&mut record, &[0, 2, 2, 0, 0]), [Answer::Moved; 5]);
     assert_eq!(record.step(1), Ok(Answer::Blocked(0)));
-    assert_eq!(record.moves(), 4);
+    assert_eq!(record.moves(), 10);
     assert_eq!(record.step(0), Ok(Answer::Delivered));
-    assert_eq!(record.step(1), Ok(Answer::Moved));
-    assert_eq!(record.moves(), 6);
+    assert_eq!(tries(&mut record, &[1, 1, 1]), [Answer::Moved; 3]);
+    assert_eq!(record.step(2), Ok(Answer::Delivered));
+    assert_eq!(record.step(1), Ok(Answer::Delivered));
+    assert_eq!((record.moves(), record.held().count()), (16, 0));
     record.start(&image, &[]).expect("accepted");
     assert_eq!((record.messages(), record.moves()), (0, 0));
+}
+
+fn started(cabling: &Cabling, ends: &[(usize, usize)]) -> Record {
+    let mut record = Record::default();
+    let start = record.start(&cabling.links_image(), &list(ends));
+    start.expect("accepted");
+    record
+}
+
+fn tries(record: &mut Record, named: &[usize]) -> Vec<Answer> {
+    let answer = |&m: &usize| record.step(m).expect("there");
+    named.iter().map(answer).collect()
+}
+
+#[test]
+fn messages_on_the_link() {
+    use Answer::{Blocked, Delivered, Moved};
+    let mut alone = started(&path(2), &[(0, 1)]);
+    let four = [Moved, Moved, Moved, Delivered];
+    assert_eq!(tries(&mut alone, &[0; 4]), four);
+    let mut itself = started(&path(2), &[(0, 0)]);
+    assert_eq!(tries(&mut itself, &[0; 3]), [Moved, Moved, Delivered]);
+    let mut behind = started(&path(2), &[(0, 1), (0, 1)]);
+    let six = [Moved, Blocked(0), Moved, Moved, Delivered, Moved];
+    assert_eq!(tries(&mut behind, &[0, 1, 0, 0, 0, 1]), six);
+    let mut behind = started(&path(2), &[(0, 1), (0, 1)]);
+    for _ in 0..3 {
+        assert_eq!(tries(&mut behind, &[0, 1]), [Moved, Blocked(0)]);
+    }
+    assert_eq!(tries(&mut behind, &[0, 1]), [Delivered, Moved]);
+    let one = drain_input(&path(2).links_image(), 0, &[0, 1]);
+    assert_eq!(drain(&one), b"drained 1 4\n");
+    let one = drain_input(&path(2).links_image(), 0, &[1, 1]);
+    assert_eq!(drain(&one), b"drained 1 3\n");
+}
+
+#[test]
+fn against_each_other_on_the_link_in_every_order() {
+    let mut orders = 0;
+    for bits in 0..256_usize {
+        let named: Vec<usize> = (0..8).map(|i| bits >> i & 1).collect();
+        if named.iter().sum::<usize>() != 4 {
+            continue;
+        }
+        orders += 1;
+        let mut record = started(&path(2), &[(0, 1), (1, 0)]);
+        for (place, &m) in named.iter().enumerate() {
+            let before = named[..place].iter().filter(|&&n| n == m).count();
+            let expected = match before {
+                3 => Answer::Delivered,
+                _ => Answer::Moved,
+            };
+            assert_eq!(record.step(m), Ok(expected));
+        }
+        assert!(record.all_delivered() && record.held().count() == 0);
+    }
+    assert_eq!(orders, 70);
+}
+
+#[test]
+fn at_the_middle_of_a_path() {
+    use Answer::{Blocked, Delivered, Moved};
+    let mut meet = started(&path(3), &[(0, 1), (2, 1)]);
+    assert_eq!(tries(&mut meet, &[0, 1, 0, 1, 0]), [Moved; 5]);
+    assert_eq!(tries(&mut meet, &[1, 1]), [Blocked(0); 2]);
+    assert_eq!(tries(&mut meet, &[0, 1, 1]), [Delivered, Moved, Delivered]);
+    let mut part = started(&path(3), &[(1, 0), (1, 2)]);
+    for _ in 0..3 {
+        assert_eq!(tries(&mut part, &[0, 1]), [Moved, Blocked(0)]);
+    }
+    let rest = [Delivered, Moved, Moved, Moved, Delivered];
+    assert_eq!(tries(&mut part, &[0, 1, 1, 1, 1]), rest);
+    let mut pass = started(&path(3), &[(1, 1), (0, 2), (1, 1)]);
+    assert_eq!(tries(&mut pass, &[0, 0, 1, 1, 1, 1]), [Moved; 6]);
+    assert_eq!(
+        tries(&mut pass, &[2, 1, 2]),
+        [Blocked(0), Delivered, Blocked(0)]
+    );
+    assert_eq!(
+        tries(&mut pass, &[0, 2, 2, 2]),
+        [Delivered, Moved, Moved, Delivered]
+    );
+}
+
+#[test]
+fn channels_in_order() {
+    let mut record = started(&path(3), &[(0, 2), (1, 0), (2, 1)]);
+    let named = [0, 0, 0, 0, 1, 1, 1, 2, 2, 2];
+    assert_eq!(tries(&mut record, &named), [Answer::Moved; 10]);
+    let held = [
+        (Channel::link(0, 1), 0),
+        (Channel::injection(0), 0),
+        (Channel::consumption(0), 1),
+        (Channel::link(1, 0), 1),
+        (Channel::link(1, 2), 0),
+        (Channel::injection(1), 1),
+        (Channel::consumption(1), 2),
+        (Channel::link(2, 1), 2),
+        (Channel::injection(2), 2),
+        (Channel::consumption(2), 0),
+    ];
+    assert_eq!(record.held().collect::<Vec<_>>(), held);
+    assert_eq!(record.step(1), Ok(Answer::Delivered));
+    let left = held.into_iter().filter(|&(_, holder)| holder != 1);
+    assert!(record.held().eq(left));
 }
 
 #[test]
@@ -224,7 +333,11 @@ fn networks_marked_run() {
     ];
     let lines: Vec<&str> = text.lines().collect();
     assert!(lines.ends_with(&last));
-    assert!(text.contains("drained 4 12\nlooks 2\n"));
+    assert!(text.contains("3 4 0 2 2 3\ndrained 4 20\nlooks 2\nfalling"));
+    let drains = "image 1 1 1 0 8 0 4 0 2 0 0 1\n\
+        drained 1 4\nlooks 0\ndrained 1 3\nlooks 0\nimage 1 4 1 ";
+    assert!(text.contains(drains));
+    assert_eq!(text.matches("\nlooks ").count(), 3);
     let link = "falling 0 255 0 1\nsheet 50 10 48 32 49 10\nfabric 3 3 3 1\n";
     assert!(text.contains(link));
     let hops = "falling 0 255 255 255 0 1 255 255 1 1 2 255 0 2 2 3\n\

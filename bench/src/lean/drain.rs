@@ -3,8 +3,15 @@
 use super::image::{bodies, Fabric};
 use crate::work::next_seed;
 
+/// Channels by number: 64 a + b from a to b, then the injection channel of
+/// each node, then the consumption channel of each.
+const INJECTION: usize = 64 * 64;
+const CONSUMPTION: usize = INJECTION + 64;
+const CHANNELS: usize = CONSUMPTION + 64;
+
+/// In the place of a next channel.
 const DELIVERED: usize = usize::MAX;
-const ARRIVED: usize = usize::MAX - 1;
+const ALL_TAKEN: usize = usize::MAX - 1;
 
 struct Message {
     at: usize,
@@ -17,11 +24,21 @@ struct Message {
 struct Machine {
     fabric: Fabric,
     messages: Vec<Message>,
-    held: [bool; 4_096],
+    held: [bool; CHANNELS],
 }
 
 /// Starts, moves until all are delivered, and answers the moves.
-pub fn drain(image: &[u8], list: &[u8], mut seed: u32) -> Option<usize> {
+pub fn drain(image: &[u8], list: &[u8], seed: u32) -> Option<usize> {
+    drain_telling(image, list, seed, |_| ())
+}
+
+/// The same, and tells each message that moves.
+pub fn drain_telling(
+    image: &[u8],
+    list: &[u8],
+    mut seed: u32,
+    mut tell: impl FnMut(usize),
+) -> Option<usize> {
     let mut machine = start(image, list)?;
     let count = machine.messages.len();
     let mut left = count;
@@ -30,6 +47,7 @@ pub fn drain(image: &[u8], list: &[u8], mut seed: u32) -> Option<usize> {
         seed = next_seed(seed);
         let look = (seed >> 16) as usize % count;
         let m = machine.ready_from(look)?;
+        tell(m);
         left -= usize::from(machine.step(m));
         moves += 1;
     }
@@ -44,30 +62,42 @@ fn start(image: &[u8], list: &[u8]) -> Option<Machine> {
     if differs || strange || !list.len().is_multiple_of(2) || list.len() > 512 {
         return None;
     }
-    let message = |pair: &[u8]| {
-        let mut message = Message {
-            at: usize::from(pair[0]),
-            target: usize::from(pair[1]),
-            falling: false,
-            next: 0,
-            held: Vec::new(),
-        };
-        message.look_ahead(&fabric);
-        message
+    let message = |pair: &[u8]| Message {
+        at: usize::from(pair[0]),
+        target: usize::from(pair[1]),
+        falling: false,
+        next: INJECTION + usize::from(pair[0]),
+        held: Vec::new(),
     };
     let messages = list.chunks_exact(2).map(message).collect();
     Some(Machine {
         fabric,
         messages,
-        held: [false; 4_096],
+        held: [false; CHANNELS],
     })
 }
 
 impl Message {
-    /// Finds the next channel, 64 a + b for the one from a to b.
+    /// Takes the next channel, and finds the one after it.
+    fn take(&mut self, fabric: &Fabric) {
+        let taken = self.next;
+        self.held.push(taken);
+        if taken >= CONSUMPTION {
+            self.next = ALL_TAKEN;
+            return;
+        }
+        if taken < INJECTION {
+            let to = taken % 64;
+            self.falling |= fabric.tables[to] < fabric.tables[self.at];
+            self.at = to;
+        }
+        self.look_ahead(fabric);
+    }
+
+    /// The channel of the next hop, or that out of the network.
     fn look_ahead(&mut self, fabric: &Fabric) {
         if self.at == self.target {
-            self.next = ARRIVED;
+            self.next = CONSUMPTION + self.target;
             return;
         }
         let nodes = fabric.nodes;
@@ -86,7 +116,7 @@ impl Machine {
     fn ready_from(&self, look: usize) -> Option<usize> {
         let ready = |&m: &usize| match self.messages[m].next {
             DELIVERED => false,
-            ARRIVED => true,
+            ALL_TAKEN => true,
             channel => !self.held[channel],
         };
         let count = self.messages.len();
@@ -96,19 +126,15 @@ impl Machine {
     /// Moves a message that is ready; answers whether it was delivered.
     fn step(&mut self, m: usize) -> bool {
         let message = &mut self.messages[m];
-        if message.next == ARRIVED {
+        if message.next == ALL_TAKEN {
             message.next = DELIVERED;
             for &channel in &message.held {
                 self.held[channel] = false;
             }
             return true;
         }
-        let (from, to) = (message.at, message.next % 64);
         self.held[message.next] = true;
-        message.held.push(message.next);
-        message.at = to;
-        message.falling |= self.fabric.tables[to] < self.fabric.tables[from];
-        message.look_ahead(&self.fabric);
+        message.take(&self.fabric);
         false
     }
 }

@@ -8,7 +8,7 @@ mod image;
 mod labels;
 mod rows;
 
-pub use drain::drain;
+pub use drain::{drain, drain_telling};
 
 /// Writes the full image of a links image; answers its length.
 pub fn build(image: &[u8], out: &mut [u8]) -> Option<usize> {

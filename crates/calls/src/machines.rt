@@ -5,13 +5,14 @@ use crate::answers;
 use crate::arguments;
 use messages::MAX_MESSAGES;
 use messages::MAX_PAIRS;
+use messages::NODE_CHANNELS;
 use messages::Record;
 use nodes::MAX_NODES;
 use refusal::Refusal;
 use refusal::Verdict;
 
-// More moves than the most messages can make, of fewer hops than nodes and a delivery each.
-const MOST_MOVES: usize = MAX_MESSAGES * (MAX_NODES + 1);
+// As many moves as the most messages can make, of fewer hops than nodes and three more each.
+const MOST_MOVES: usize = MAX_MESSAGES * (MAX_NODES + 2);
 
 // The messages that are marked, and the line's end.
 fn marked(bytes: &[u8]) {
@@ -27,7 +28,7 @@ fn mark(message: usize, byte: u8) {
     }
 }
 
-// Each channel that is held, by its two nodes, with the message that holds it, and the line's end.
+// Each channel that is held, by its two nodes, or by `in` or `out` and its node, with the message that holds it, and the line's end.
 fn held(holders: &[u16]) {
     for c in 0..holders.len() {
         hold(c, holders[c]);
@@ -35,10 +36,24 @@ fn held(holders: &[u16]) {
     answers::word(b"\n");
 }
 
+// Channel `end` of a node: to that node, or the injection or the consumption channel.
+fn ends(node: usize, end: usize) {
+    if end < MAX_NODES {
+        answers::field(node);
+        answers::field(end);
+        return;
+    }
+    if end == MAX_NODES {
+        answers::word(b" in");
+    } else {
+        answers::word(b" out");
+    }
+    answers::field(node);
+}
+
 fn hold(channel: usize, holder: u16) {
     if holder != 0 {
-        answers::field(channel / MAX_NODES);
-        answers::field(channel % MAX_NODES);
+        ends(channel / NODE_CHANNELS, channel % NODE_CHANNELS);
         answers::field((holder - 1) as usize);
     }
 }

@@ -5,8 +5,8 @@ use mathlib.Core.List.{List}
 use Prim.Native.Nat.{ℕ, _<_}
 use lib.ListN.{getD}
 use Rattle.finite.specs.Truth.{_&_, same}
-use Rattle.finite.proofs.Truth.{no-tf, refute, and-l, and-r, and-true, non-true, true-non, same-eq}
-use Rattle.finite.proofs.Search.{any-some}
+use Rattle.finite.proofs.Truth.{no-tf, refute, both, and-l, and-r, and-true, non-true, true-non, same-eq, same-refl}
+use Rattle.finite.proofs.Search.{any-some, some-any}
 use Rattle.claims.specs.Claims.{Progress, Keeps, keptIn, holds}
 
 -- a claimant that is not done holds r: it took r as number `at`
@@ -32,3 +32,9 @@ pub undone-holds : (itinerary : ℕ → List ℕ) (keeps : Keeps) (s : Progress)
     → holds itinerary keeps s m r ≡ keptIn (itinerary m) (λ i. keeps m i (s .taken m)) (s .taken m) r
 unfolding holds
 undone-holds itinerary keeps s m r d = ap (λ (b : Bool). b & keptIn (itinerary m) (λ i. keeps m i (s .taken m)) (s .taken m) r) (true-non d) ∙ and-true _
+
+-- so it holds each that it has taken and keeps
+pub taken-holds : (itinerary : ℕ → List ℕ) (keeps : Keeps) (s : Progress) (m i : ℕ) → s .done m ≡ false → i < s .taken m → keeps m i (s .taken m) ≡ true
+    → holds itinerary keeps s m (getD (itinerary m) i 0) ≡ true
+unfolding keptIn
+taken-holds itinerary keeps s m i d l k = undone-holds itinerary keeps s m _ d ∙ some-any (s .taken m) _ i l (both k (same-refl _))

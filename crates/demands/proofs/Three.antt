@@ -17,7 +17,8 @@ use Rattle.messages.specs.Fresh.{begunOf}
 use Rattle.messages.specs.Runs.{Listed, allMoves, Reached, move, successful}
 use Rattle.messages.proofs.Answers.{unchanged, each-answer}
 use Rattle.messages.proofs.Total.{sum-of-shortest}
-use Rattle.messages.proofs.Drain.{progress, never-more, all-delivered, every-link-free, counts-one}
+use Rattle.messages.proofs.InOut.{one-in, one-out}
+use Rattle.messages.proofs.Drain.{holding, progress, never-more, all-delivered, every-channel-free, counts-one}
 use Rattle.start.specs.Start.{startFault, freshOf, recordAfter, startOf}
 use Rattle.fabric.proofs.Arrays.{label-read}
 use Rattle.start.proofs.Fabrics.{start-reached, start-fabric, start-listed}
@@ -51,7 +52,7 @@ module _ (b list : List ℕ) (fine : startFault b list ≡ Fine) where
   unfolding startOf recordAfter freshOf begunOf
   start-moves old = rw fine refl
 
-  pub demand-3 : (old : Record) (tries : List ℕ) (paths : ℕ → List ℕ) → ShortestPaths c list paths → Drains list (startOf old b list .«record») tries (sumOver list paths)
+  pub demand-3 : (old : Record) (tries : List ℕ) (paths : ℕ → List ℕ) → ShortestPaths c list paths → Drains c list (startOf old b list .«record») tries (sumOver list paths)
   demand-3 old tries paths h =
       let tabled = start-fabric b list fine in
       let listed = start-listed b list fine in
@@ -67,5 +68,9 @@ module _ (b list : List ℕ) (fine : startFault b list ≡ Fine) where
         never-refused = λ m l f e. let high = (rw e at (each-answer tabled listed run m)) .0 in omega arith;
         never-more = omega arith;
         whole = (λ e. all .0 (omega arith), λ d. let e = all .1 d in omega arith);
-        free = every-link-free tabled listed run;
+        free = every-channel-free tabled listed run;
+        holding = holding tabled listed run;
+        one-in = one-in tabled listed run;
+        one-out = one-out tabled listed run;
+        tells = each-answer tabled listed run;
       }

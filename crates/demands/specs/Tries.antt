@@ -11,12 +11,14 @@ use Rattle.finite.specs.Search.{Some}
 use Rattle.lawful.specs.Path.{LawfulTo, Shortest}
 use Rattle.refusal.specs.declared.Refusal.{Refusal}
 use Rattle.cabling.specs.Cabling.{Cabling, links}
-use Rattle.fabric.specs.Fabric.{labelFor}
+use Rattle.claims.specs.Claims.{Progress}
+use Rattle.fabric.specs.Fabric.{labelFor, fabricOf}
 use Rattle.messages.specs.declared.Record.{Record}
 use Rattle.messages.specs.declared.Answer.the-variants.{Refused}
 use Rattle.messages.specs.Step.{isDelivered, holder, stepOf}
 use Rattle.messages.specs.Fresh.{sourceIn, targetIn}
 use Rattle.messages.specs.Runs.{messagesIn, successful}
+use Rattle.messages.specs.Tells.{Says, Entered, Leaving, Tells}
 
 -- the record after all of them
 abbrev pub tried : Record → List ℕ → Record
@@ -32,15 +34,15 @@ succeeded r (m ∷ tries) = when (successful (stepOf r m .answer)) 1 + succeeded
 abbrev pub ShortestPaths : Cabling → List ℕ → (ℕ → List ℕ) → Type 0
 ShortestPaths c list paths = (m : ℕ) → m < messagesIn list → Shortest (LawfulTo (links c) (labelFor c) (sourceIn list m) (targetIn list m)) (paths m)
 
--- RULES 2.3: "the sum, over all messages, of (shortest lawful hops + 1)"
+-- RULES 2.3: "the sum, over all messages, of (shortest lawful hops + 3)"
 abbrev pub sumOver : List ℕ → (ℕ → List ℕ) → ℕ
-sumOver list paths = sumTo (messagesIn list) (λ m. length (paths m) + 1)
+sumOver list paths = sumTo (messagesIn list) (λ m. length (paths m) + 3)
 
 abbrev pub AllDelivered : List ℕ → Record → Type 0
 AllDelivered list r = (m : ℕ) → m < messagesIn list → isDelivered r m ≡ true
 
--- demand 3 (RULES 2.3), of a record that start filled, the moves tried from there, and the sum
-pub record Drains (list : List ℕ) (begun : Record) (tries : List ℕ) (sum : ℕ) : Type 0 where
+-- demand 3 (RULES 2.3), of a record that start filled for a cabling's messages, the moves tried from there, and the sum
+pub record Drains (c : Cabling) (list : List ℕ) (begun : Record) (tries : List ℕ) (sum : ℕ) : Type 0 where
   -- RULES 2.3: "In whichever order moves are tried, while a message is undelivered some message can move."
   pub goes-on : Some (messagesIn list) (λ m. non (isDelivered (tried begun tries) m)) → Some (messagesIn list) (λ m. successful (stepOf (tried begun tries) m .answer))
   -- RULES 8.3: "Hop answers a node in every record that a start and moves lead to": no message of the list is refused
@@ -49,5 +51,12 @@ pub record Drains (list : List ℕ) (begun : Record) (tries : List ℕ) (sum : �
   pub never-more : succeeded begun tries ≤ sum
   -- RULES 2.3: "They reach that sum exactly when every message is delivered"
   pub whole : (succeeded begun tries ≡ sum) ↔ AllDelivered list (tried begun tries)
-  -- RULES 2.3: "and then every channel is free"
-  pub free : AllDelivered list (tried begun tries) → (c : ℕ) → holder (tried begun tries) c ≡ 0
+  -- RULES 2.3: "and then every channel is free": those of the links, and each node's injection and consumption channel
+  pub free : AllDelivered list (tried begun tries) → (channel : ℕ) → holder (tried begun tries) channel ≡ 0
+  -- RULES 2.3: "One message to a channel, channels held until delivery": a message holds just the channels that it has taken, until it is delivered
+  pub holding : (s : Progress) × Says (c .nodes) (links c) (fabricOf c .labels) list (tried begun tries) s
+  -- RULES 8.1: "at any time at most one message holds a channel": of those from a node one at most is in the network, of those to a node one at most on its way out
+  pub one-in : (a b : ℕ) → a < messagesIn list → b < messagesIn list → sourceIn list a ≡ sourceIn list b → Entered list (tried begun tries) a → Entered list (tried begun tries) b → a ≡ b
+  pub one-out : (a b : ℕ) → a < messagesIn list → b < messagesIn list → targetIn list a ≡ targetIn list b → Leaving (tried begun tries) a → Leaving (tried begun tries) b → a ≡ b
+  -- RULES 8.3: what each answer to one move more tells
+  pub tells : (m : ℕ) → Tells (c .nodes) (links c) (fabricOf c .labels) list (tried begun tries) m (stepOf (tried begun tries) m .«record») (stepOf (tried begun tries) m .answer)

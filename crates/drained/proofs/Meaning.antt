@@ -1,4 +1,4 @@
--- What a drain prints is the same for every seed: the messages, and the sum of (shortest lawful hops + 1); `drained 0 0` where there is no message.
+-- What a drain prints is the same for every seed: the messages, and the sum of (shortest lawful hops + 3); `drained 0 0` where there is no message.
 use mathlib.Core.Path.{_≡_, _∙_, ap, ap₂}
 use mathlib.Core.List.{List, [], _∷_}
 use Prim.Native.Nat.{ℕ, _+_, _≤_}

@@ -1,4 +1,4 @@
--- What a drain comes to, whatever its seed: it takes exactly as many picks as the sum of (shortest lawful hops + 1), which it counts; then every message is
+-- What a drain comes to, whatever its seed: it takes exactly as many picks as the sum of (shortest lawful hops + 3), which it counts; then every message is
 -- delivered and every channel is free.
 use mathlib.Core.Path.{_≡_, sym, _∙_}
 use mathlib.Core.Bool.{true, false}
@@ -14,7 +14,7 @@ use Rattle.messages.specs.declared.Record.{Record}
 use Rattle.messages.specs.Step.{isDelivered, holder, stepOf}
 use Rattle.messages.specs.Runs.{Listed, messagesIn, successful}
 use Rattle.messages.specs.Ready.{allDelivered}
-use Rattle.messages.proofs.Drain.{all-delivered, every-link-free}
+use Rattle.messages.proofs.Drain.{all-delivered, every-channel-free}
 use Rattle.messages.proofs.Reached.{reached-state}
 use Rattle.messages.proofs.Ready.{delivered-every, messages-listed}
 use Rattle.start.specs.Start.{startFault, freshOf}
@@ -78,4 +78,4 @@ module _ (b list : List ℕ) (fine : startFault b list ≡ Fine) where
     end-delivered = all-delivered tabled listed end-run .0 (end-moves ∙ sym (sum-read b list))
 
     pub end-free : (c : ℕ) → holder (endOf b list seed) c ≡ 0
-    end-free = every-link-free tabled listed end-run end-delivered
+    end-free = every-channel-free tabled listed end-run end-delivered

@@ -13,7 +13,7 @@ use Rattle.fabric.specs.Fabric.{fabricOf}
 use Rattle.format.specs.Contents.{nodesIn}
 use Rattle.image.specs.Image.{cablingIn}
 use Rattle.nodes.specs.Limits.{maxNodes}
-use Rattle.messages.specs.Sizes.{maxMessages}
+use Rattle.messages.specs.Sizes.{maxMessages, nodeChannels}
 use Rattle.messages.specs.declared.Record.{Record}
 use Rattle.messages.specs.Fresh.{sourceIn, targetIn, begunOf}
 use Rattle.messages.specs.Runs.{Listed, messagesIn, routeIn, allMoves}
@@ -35,7 +35,7 @@ use Rattle.draining.proofs.Picks.{after-done, after-pick, pick-run, pic
 pub sum-read : (b list : List ℕ) → allMoves (nodesIn b) (links (cablingIn b)) (fabricOf (cablingIn b) .labels) list ≡ sumOf b list
 unfolding allMoves routeIn
 sum-read b list =
-    ap (λ (label : ℕ → ℕ). sumTo (messagesIn list) (λ m. length (routeOf (nodesIn b) (links (cablingIn b)) label (sourceIn list m) (targetIn list m)) + 1))
+    ap (λ (label : ℕ → ℕ). sumTo (messagesIn list) (λ m. length (routeOf (nodesIn b) (links (cablingIn b)) label (sourceIn list m) (targetIn list m)) + 3))
     (label-read (cablingIn b))
 
 pub fresh-moves : (b list : List ℕ) → freshOf b list .moves ≡ 0
@@ -82,13 +82,13 @@ module _ (b list : List ℕ) (fine : startFault b list ≡ Fine) where
     pub running-marks : length (last .delivered) ≡ maxMessages
     running-marks = reached-state tabled listed (i .run) .1 .kept .delivered-size
 
-    running-free : (span : ℕ) → span ≡ maxNodes * min (last .nodes) maxNodes → FreeFrom span (last .holders)
+    running-free : (span : ℕ) → span ≡ nodeChannels * min (last .nodes) maxNodes → FreeFrom span (last .holders)
     running-free span e =
         let n = reached-state tabled listed (i .run) .1 .kept .nodes in
         let m = tabled .most in
-        let s : span ≡ maxNodes * nodesIn b = omega arith in
+        let s : span ≡ nodeChannels * nodesIn b = omega arith in
         rw s (free-from tabled listed (i .run))
 
-    -- no channel from 64 N on is held, so a pick may leave those out
-    pub running-pick : (span : ℕ) → span ≡ maxNodes * min (last .nodes) maxNodes → pickIn span next last ≡ pickOf next last
+    -- no channel is held but those of the N nodes, so a pick may leave out those behind
+    pub running-pick : (span : ℕ) → span ≡ nodeChannels * min (last .nodes) maxNodes → pickIn span next last ≡ pickOf next last
     running-pick span e = pick-in span next last (reached-state tabled listed (i .run) .1 .kept .holders-size) (running-free span e)

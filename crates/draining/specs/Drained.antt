@@ -18,7 +18,7 @@ unfoldable pub after : ℕ → ℕ → Record → Record
 after zero seed r = r
 after (suc k) seed r = elim (allDelivered r) [ true ↦ r | false ↦ after k (pickOf seed r .seed) (pickOf seed r .«record») ]
 
--- RULES 2.3: "the sum, over all messages, of (shortest lawful hops + 1)", by the hops of the routes, for the messages of the list: so many picks a drain
+-- RULES 2.3: "the sum, over all messages, of (shortest lawful hops + 3)", by the hops of the routes, for the messages of the list: so many picks a drain
 -- takes. That these hops are the shortest is `sum-of-shortest` (messages/proofs/Total)
 abbrev pub sumOf : List ℕ → List ℕ → ℕ
 sumOf b list = allMoves (nodesIn b) (links (cablingIn b)) (labelsFor (cablingIn b)) list

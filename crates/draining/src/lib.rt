@@ -1,8 +1,8 @@
 // Draining: a start, and picks until every message is delivered.
 ghost use mathlib.Core.Path.{_≡_};
 ghost use Rattle.draining.specs.Drained.{drainOf};
+use messages::NODE_CHANNELS;
 use messages::Record;
-use nodes::MAX_NODES;
 use refusal::Verdict;
 
 // What a drain answers: the verdict on its start, and the record: drained, or as it was where the start is refused.
@@ -11,7 +11,7 @@ pub struct Drained {
     pub record: Record,
 }
 
-// Starts the machine, and moves messages until every one is delivered. Channels are held between nodes alone, so those from 64 N on are not looked at.
+// Starts the machine, and moves messages until every one is delivered. No channel is held but those of the N nodes, so those behind are not looked at.
 pub fn drain(record: Record, image: &[u8], list: &[u8], seed: u32) -> Drained
     ensures { λ r. ⌜ r ≡ drainOf «record» (now (image .entry)) (now (list .entry)) seed ⌝ }
 {
@@ -32,11 +32,12 @@ pub fn drain(record: Record, image: &[u8], list: &[u8], seed: u32) -> Drained
     let targets = last.targets;
     let mut heads = last.heads;
     let mut classes = last.classes;
+    let mut wants = last.wants;
     let mut delivered = last.delivered;
     let mut holders = last.holders;
     let mut moves = last.moves;
     let mut next = seed;
-    let span = MAX_NODES * nodes::capped(nodes);
+    let span = NODE_CHANNELS * nodes::capped(nodes);
     while !machine::all_delivered_in(messages, &delivered) {
         let picked = picking::pick_in(
             next,
@@ -50,6 +51,7 @@ pub fn drain(record: Record, image: &[u8], list: &[u8], seed: u32) -> Drained
             &targets,
             &mut heads,
             &mut classes,
+            &mut wants,
             &mut delivered,
             &mut holders,
         );
@@ -68,6 +70,7 @@ pub fn drain(record: Record, image: &[u8], list: &[u8], seed: u32) -> Drained
             targets,
             heads,
             classes,
+            wants,
             delivered,
             holders,
         },

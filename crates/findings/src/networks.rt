@@ -1,5 +1,5 @@
-// An entry of the table, as the crate `worked` lays it out, and what is found of it: of its links image Show's lines, and where it has messages, Drain's line for
-// seed 0 and the message that is looked at first; the bytes of both images, the falling rows, hops and the sheet, where the entry has them.
+// An entry of the table, as the crate `worked` lays it out, and what is found of it: of its links image Show's lines, and for each list of messages Drain's line
+// for seed 0 and the message that is looked at first; the bytes of both images, the falling rows, hops and the sheet, where the entry has them.
 ghost use Prim.Native.Nat.{_+_, _≤_, _<_};
 use crate::inputs;
 use crate::inputs::ROOM;
@@ -15,7 +15,7 @@ struct Entry {
     links: usize,
     full: usize,
     sheet: usize,
-    messages: usize,
+    loads: usize,
     next: usize,
 }
 
@@ -43,7 +43,7 @@ fn list(table: &[u8], at: usize) -> &[u8] {
 
 // The entry at place `at`.
 fn entry_at(table: &[u8], at: usize) -> Entry
-    requires { ⌜ at ≤ 531 ⌝ }
+    requires { ⌜ at ≤ 524 ⌝ }
     ensures { λ r. ⌜ (at < r .next) × (r .next ≤ 4096) ⌝ }
 {
     let nodes = slices::byte(table, at) as usize;
@@ -54,8 +54,8 @@ fn entry_at(table: &[u8], at: usize) -> Entry
     let links = behind(table, hops);
     let full = behind(table, links);
     let sheet = behind(table, full);
-    let messages = behind(table, sheet);
-    let next = behind(table, messages) + 2;
+    let loads = behind(table, sheet);
+    let next = behind(table, loads);
     Entry {
         nodes,
         pairs,
@@ -64,7 +64,7 @@ fn entry_at(table: &[u8], at: usize) -> Entry
         links,
         full,
         sheet,
-        messages,
+        loads,
         next,
     }
 }
@@ -139,15 +139,24 @@ fn tell_hops(image: &[u8], listed: &[u8]) {
     }
 }
 
-fn tell_messages(image: &[u8], messages: &[u8]) {
-    if messages.len() == 0 {
-        return;
-    }
+fn tell_load(image: &[u8], messages: &[u8]) {
     inputs::tell_drained(image, messages);
     let look = [seeds::look(seeds::next_seed(0), messages.len() / 2)];
     let mut out = [0u8; ROOM];
     let end = lines::line(&mut out, 0, b"looks", &look);
     io::write_all(1, slices::front(&out, end));
+}
+
+// Each list of messages.
+fn tell_loads(image: &[u8], listed: &[u8]) {
+    let mut at = 0;
+    while at < 256 {
+        if listed.len() <= at {
+            return;
+        }
+        tell_load(image, list(listed, at));
+        at = behind(listed, at);
+    }
 }
 
 // Writes an image of the entry's network; answers its length, 0 where it is refused.
@@ -164,7 +173,7 @@ fn tell_links(table: &[u8], e: Entry, image: &[u8]) {
     let written = shown::output(image, &mut out);
     lines::say(written, &out);
     tell_image(image, list(table, e.links));
-    tell_messages(image, list(table, e.messages));
+    tell_loads(image, list(table, e.loads));
 }
 
 fn tell_full(table: &[u8], e: Entry, image: &[u8]) {
@@ -197,7 +206,7 @@ fn tell_entry(table: &[u8], e: Entry, buffer: &mut [u8]) {
 // Every entry.
 pub fn tell_all(table: &[u8]) {
     let mut at = 0;
-    while at < 531 {
+    while at < 524 {
         let e = entry_at(table, at);
         let mut space = io::large_buffer();
         tell_entry(table, e, &mut space);

@@ -1,4 +1,4 @@
--- Laws of lists: tabulated ones by length, elements, agreement and extensionality; lists of zeros, and zeros behind a list; one list stored over another.
+-- Laws of lists: tabulated ones by length, elements, agreement and extensionality; lists of zeros, and zeros behind a list; defaults; one list stored over another.
 use mathlib.Core.Path.{_≡_, refl, sym, _∙_, ap, ap₂, subst}
 use mathlib.Core.Bool.{true, false}
 use mathlib.Core.List.{List, [], _∷_, _++_}
@@ -17,6 +17,12 @@ pub getD-zeros : (n i : ℕ) → _≡_ {A = ℕ} (getD (replicate n 0) i 0) 0
 getD-zeros zero i = refl
 getD-zeros (suc n) zero = refl
 getD-zeros (suc n) (suc i) = getD-zeros n i
+
+-- before the end of a list its default does not matter
+pub getD-inside : (l : List ℕ) (i c d : ℕ) → i < length l → getD l i c ≡ getD l i d
+getD-inside [] i c d b = absurd (not-suc-le-zero b)
+getD-inside (x ∷ l) zero c d b = refl
+getD-inside (x ∷ l) (suc i) c d b = getD-inside l i c d (le-of-suc-le-suc b)
 
 upFrom-length : (k n : ℕ) (f : ℕ → ℕ) → length (upFrom k n f) ≡ n
 unfolding upFrom

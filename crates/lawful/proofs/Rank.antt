@@ -7,7 +7,7 @@ use native.Mathlib.Nat.{not-suc-le-zero, le-of-lt, le-of-suc-le-suc, le-dest, ad
 use native.Mathlib.Omega.{arith}
 use lib.ListN.{length, getD}
 use Rattle.finite.specs.Truth.{below}
-use Rattle.finite.proofs.Truth.{lt-below, le-below}
+use Rattle.finite.proofs.Truth.{bcase, below-lt, lt-below, le-below}
 use Rattle.lawful.specs.Turn.{rises, falls, Distinct}
 use Rattle.lawful.proofs.Run.{Hop, rise, fall, rises-lt, falls-lt, hop-edge}
 use Rattle.lawful.proofs.Paths.{WayTo, way-first}
@@ -15,6 +15,17 @@ use Rattle.lawful.proofs.Paths.{WayTo, way-first}
 -- a rise into u has the rank `label u`, a fall into u the rank `2 m + 1 - label u`
 unfoldable pub rank : ℕ → (ℕ → ℕ) → ℕ → ℕ → ℕ
 rank m label v u = elim (below (label v) (label u)) [ true ↦ label u | false ↦ 2 * m + 1 - label u ]
+
+-- where u has a label up to m it is above 0 and at most 2 m + 1
+pub rank-between : (m : ℕ) (label : ℕ → ℕ) (v u : ℕ) → label u ≤ m → (0 < rank m label v u) × (rank m label v u ≤ 2 * m + 1)
+unfolding rank
+rank-between m label v u b =
+    bcase (below (label v) (label u))
+    (λ t.
+    let l = below-lt _ _ t in
+    let e : rank m label v u ≡ label u = rw (t, rank) in
+    (omega arith, omega arith))
+    (λ t. let e : rank m label v u ≡ 2 * m + 1 - label u = rw (t, rank) in (omega arith, omega arith))
 
 -- the rank of hop i, counted from 0, of the path that goes from v over l
 abbrev pub hopRank : ℕ → (ℕ → ℕ) → ℕ → List ℕ → ℕ → ℕ

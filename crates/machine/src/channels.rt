@@ -1,31 +1,47 @@
-// Channels and their holders, one a channel: past the end none is held, and a store changes nothing.
+// Channels: their numbers, and numbers in arrays, where 0 is read past the end and a store there changes nothing.
 ghost use mathlib.Core.Path.{_≡_};
 ghost use Prim.Native.Nat.{min};
 ghost use lib.ListN.{getD, set};
-ghost use Rattle.messages.specs.Step.{channel, released};
+ghost use Rattle.messages.specs.Channels.{hopChannel, injection, consumption};
+ghost use Rattle.messages.specs.Step.{released};
 ghost use Rattle.machine.specs.InPlace.{givenBack};
+use messages::NODE_CHANNELS;
 use nodes::MAX_NODES;
 
-// The number of the channel from a to b: 64 a + b.
-pub fn channel(a: u8, b: u8) -> usize
-    ensures { λ r. ⌜ r ≡ channel a b ⌝ }
+// The channel of the hop from a to b.
+pub fn hop(a: u8, b: u8) -> u16
+    ensures { λ r. ⌜ r ≡ hopChannel a b ⌝ }
 {
-    MAX_NODES * (a as usize) + (b as usize)
+    (NODE_CHANNELS * (a as usize) + (b as usize)) as u16
 }
 
-// The holder of channel c.
-pub fn held(holders: &[u16], c: usize) -> u16
-    ensures { λ r. ⌜ r ≡ getD (now (holders .entry)) c 0 ⌝ }
+// The injection channel of a node.
+pub fn injection(node: u8) -> u16
+    ensures { λ r. ⌜ r ≡ injection node ⌝ }
 {
-    if c < holders.len() { holders[c] } else { 0 }
+    (NODE_CHANNELS * (node as usize) + MAX_NODES) as u16
 }
 
-// Channel c is taken.
-pub fn hold(holders: &mut [u16], c: usize, holder: u16)
-    ensures { λ _. ⌜ now (holders .exit) ≡ set (now (holders .entry)) c holder ⌝ }
+// The consumption channel of a node.
+pub fn consumption(node: u8) -> u16
+    ensures { λ r. ⌜ r ≡ consumption node ⌝ }
 {
-    if c < holders.len() {
-        holders[c] = holder;
+    (NODE_CHANNELS * (node as usize) + (MAX_NODES + 1)) as u16
+}
+
+// Number i of an array.
+pub fn word(words: &[u16], i: usize) -> u16
+    ensures { λ r. ⌜ r ≡ getD (now (words .entry)) i 0 ⌝ }
+{
+    if i < words.len() { words[i] } else { 0 }
+}
+
+// Number i of an array is written.
+pub fn put(words: &mut [u16], i: usize, n: u16)
+    ensures { λ _. ⌜ now (words .exit) ≡ set (now (words .entry)) i n ⌝ }
+{
+    if i < words.len() {
+        words[i] = n;
     }
 }
 

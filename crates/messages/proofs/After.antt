@@ -1,29 +1,27 @@
 -- A move leads from a state to a state: taking a channel is the claims' taking, a delivery their finishing.
 use mathlib.Core.Path.{_≡_, refl, sym, _∙_, ap}
 use mathlib.Core.Bool.{Bool, false}
-use mathlib.Core.List.{List, _∷_}
+use mathlib.Core.List.{List}
 use Prim.Native.Nat.{ℕ, suc, _<_}
 use native.Mathlib.Omega.{arith}
 use lib.ListN.{length, getD, length-set}
 use Rattle.finite.specs.Truth.{_or_, same}
 use Rattle.finite.proofs.Truth.{bcase, or-l, or-false, same-eq, same-ne, eq-same, ne-same}
 use Rattle.finite.proofs.Lists.{tabulate-length}
-use Rattle.lawful.specs.Entry.{entry, freeAfter}
-use Rattle.lawful.specs.Turn.{labelIn}
 use Rattle.claims.specs.Claims.{Progress, Keeping, holds, wanted, taking, finishing, made}
 use Rattle.claims.proofs.Counting.{made-le}
 use Rattle.claims.proofs.Taking.{taken-here, taken-there, taking-done, taking-made, taking-other, taking-kept, taking-lawful}
 use Rattle.claims.proofs.Finishing.{done-here, done-there, finishing-made, finishing-other, finishing-free, finishing-lawful}
 use Rattle.hops.specs.Tabled.{classOf, Tabled}
-use Rattle.messages.specs.Sizes.{maxMessages, maxPairs}
+use Rattle.messages.specs.Sizes.{maxMessages, maxChannels}
+use Rattle.messages.specs.Channels.{allTaken}
 use Rattle.messages.specs.declared.Record.{Record}
-use Rattle.messages.specs.Step.{head, target, class, isDelivered, nextClass, nextChannel, holder, counted, released, moved, arrived}
-use Rattle.messages.specs.Fresh.{sourceIn, targetIn}
-use Rattle.messages.specs.Runs.{Listed, messagesIn, routeIn, itineraryIn}
+use Rattle.messages.specs.Step.{want, head, class, isDelivered, holder, counted, released, moved, arrived}
+use Rattle.messages.specs.Runs.{Listed, messagesIn, itineraryIn}
 use Rattle.messages.specs.Tells.{keeps, Says}
-use Rattle.messages.proofs.Changes.{released-here, released-other, moved-head, moved-heads, moved-class, moved-classes, moved-holder, moved-holders, arrived-mark, arrived-marks, arrived-holders}
-use Rattle.messages.proofs.State.{Kept, isFree, free-is, OnRoute, State, few-messages}
-use Rattle.messages.proofs.Hops.{more-to-take, next-class, next-way, next-wanted, next-inside}
+use Rattle.messages.proofs.Changes.{released-here, released-other, moved-head, moved-heads, moved-class, moved-classes, moved-want, moved-wants, moved-holder, moved-holders, arrived-mark, arrived-marks, arrived-holders}
+use Rattle.messages.proofs.State.{Kept, isFree, free-is, OnRoute, hopsTo, State, few-messages}
+use Rattle.messages.proofs.Next.{Behind, more-to-take, next-wanted, behind}
 use Rattle.messages.proofs.Total.{all-moves-small, all-moves-whole}
 
 -- nothing is given back on the way
@@ -44,6 +42,7 @@ module _ {n : ℕ} {labels free falling list : List ℕ} {r : Record} (m : ℕ) 
     targets = kept .targets;
     heads-size = length-set (r .heads) m _ ∙ kept .heads-size;
     classes-size = length-set (r .classes) m _ ∙ kept .classes-size;
+    wants-size = length-set (r .wants) m _ ∙ kept .wants-size;
     delivered-size = kept .delivered-size;
     holders-size = length-set (r .holders) _ _ ∙ kept .holders-size;
   }
@@ -59,8 +58,9 @@ module _ {n : ℕ} {labels free falling list : List ℕ} {r : Record} (m : ℕ) 
     targets = kept .targets;
     heads-size = kept .heads-size;
     classes-size = kept .classes-size;
+    wants-size = kept .wants-size;
     delivered-size = length-set (r .delivered) m _ ∙ kept .delivered-size;
-    holders-size = tabulate-length maxPairs _;
+    holders-size = tabulate-length maxChannels _;
   }
 
 module _ {n : ℕ} {edge : ℕ → ℕ → Bool} {labels free falling list : List ℕ} (tabled : Tabled n edge labels free falling) (listed : Listed n list)
@@ -93,14 +93,18 @@ module _ {n : ℕ} {edge : ℕ → ℕ → Bool} {labels free falling list : Lis
 
   -- ---- it took its next channel
 
-  module _ (d : head r m ≡ target r m → ⊥) (free-channel : holder r (nextChannel r m) ≡ 0) where
+  module _ (d : want r m < maxChannels) (free-channel : holder r (want r m) ≡ 0) where
     abbrev ahead : Progress
     ahead = taking s m
 
-    chosen : (c : ℕ) → nextChannel r m ≡ c → holder (moved r m) c ≡ suc m
-    chosen c e =
-        ap (holder (moved r m)) (sym e)
-        ∙ moved-holder r m (let a = next-inside tabled listed state m low d in let b = state .kept .holders-size in omega arith)
+    more : s .taken m < length (itinerary m)
+    more = more-to-take tabled listed state m low d
+
+    next : Behind n edge labels list r s m
+    next = behind tabled listed state m low more
+
+    chosen : (c : ℕ) → want r m ≡ c → holder (moved r m) c ≡ suc m
+    chosen c e = ap (holder (moved r m)) (sym e) ∙ moved-holder r m (let b = state .kept .holders-size in omega arith)
 
     -- by the claims it holds that one and what it held
     took : (c : ℕ) → holds itinerary keeps ahead m c ≡ same (wanted itinerary s m) c or holds itinerary keeps s m c
@@ -109,7 +113,7 @@ module _ {n : ℕ} {edge : ℕ → ℕ → Bool} {labels free falling list : Lis
     held-here : (c : ℕ) → same (holder (moved r m) c) (suc m) ≡ holds itinerary keeps ahead m c
     held-here c =
         let w = next-wanted tabled listed state m low d in
-        bcase (same (nextChannel r m) c)
+        bcase (same (want r m) c)
         (λ t.
         let e = same-eq _ _ t in
         eq-same (chosen c e) ∙ sym (took c ∙ or-l _ (eq-same (sym w ∙ e))))
@@ -121,7 +125,7 @@ module _ {n : ℕ} {edge : ℕ → ℕ → Bool} {labels free falling list : Lis
     held-there : (b c : ℕ) → (m ≡ b → ⊥) → b < k → same (holder (moved r m) c) (suc b) ≡ holds itinerary keeps ahead b c
     held-there b c e l =
         let old = state .says .held c b l ∙ sym (taking-other itinerary keeps s m b c e) in
-        bcase (same (nextChannel r m) c)
+        bcase (same (want r m) c)
         (λ t.
         let q = same-eq _ _ t in
         let h = chosen c q in
@@ -129,11 +133,11 @@ module _ {n : ℕ} {edge : ℕ → ℕ → Bool} {labels free falling list : Lis
         ne-same (λ x. e (omega arith)) ∙ sym (ne-same (λ x. omega arith)) ∙ old)
         (λ t. ap (λ (h : ℕ). same h (suc b)) (moved-holders r m c (same-ne _ _ t)) ∙ old)
 
-    moved-at : (c : ℕ) → c < k → head (moved r m) c ≡ getD (sourceIn list c ∷ routeIn n edge labels list c) (ahead .taken c) 0
-    moved-at =
-        by-message (λ c. c < k → head (moved r m) c ≡ getD (sourceIn list c ∷ routeIn n edge labels list c) (ahead .taken c) 0)
-        (λ l. rw (taken-here s m) (moved-head r m (placed (state .kept .heads-size)) ∙ next-way tabled listed state m low d .at))
-        (λ c e l. rw (taken-there s m c e) (moved-heads r m c e ∙ state .says .at c l))
+    moved-next : (c : ℕ) → c < k → want (moved r m) c ≡ getD (itinerary c) (ahead .taken c) allTaken
+    moved-next =
+        by-message (λ c. c < k → want (moved r m) c ≡ getD (itinerary c) (ahead .taken c) allTaken)
+        (λ l. rw (taken-here s m) (moved-want r m (placed (state .kept .wants-size)) ∙ next .want-is))
+        (λ c e l. rw (taken-there s m c e) (moved-wants r m c e ∙ state .says .wants c l))
 
     moved-done : (c : ℕ) → c < k → isDelivered (moved r m) c ≡ ahead .done c
     unfolding moved isDelivered
@@ -145,37 +149,37 @@ module _ {n : ℕ} {edge : ℕ → ℕ → Bool} {labels free falling list : Lis
 
     moved-says : Says n edge labels list (moved r m) ahead
     moved-says = record {
-      lawful = taking-lawful itinerary s m k (state .says .lawful) fresh (more-to-take tabled listed state m low d);
-      at = moved-at;
+      lawful = taking-lawful itinerary s m k (state .says .lawful) fresh more;
+      wants = moved-next;
       done = moved-done;
       held = λ c b. by-message (λ b. b < k → same (holder (moved r m) c) (suc b) ≡ holds itinerary keeps ahead b c) (λ l. held-here c) (λ b e. held-there b c e) b;
       owners = λ c.
-          bcase (same (nextChannel r m) c) (λ t. let h = chosen c (same-eq _ _ t) in omega arith)
+          bcase (same (want r m) c) (λ t. let h = chosen c (same-eq _ _ t) in omega arith)
           (λ t. let h = moved-holders r m c (same-ne _ _ t) in let o = state .says .owners c in omega arith);
       count = moved-count;
     }
 
-    -- the class that the machine writes is the class after the hop
-    moved-class-is : class (moved r m) m ≡ nextClass r m
-    moved-class-is = moved-class r m (placed (state .kept .classes-size))
+    -- the class that the machine writes is that behind the channel
+    moved-class-is : class (moved r m) m ≡ classOf (next .class-then)
+    moved-class-is = moved-class r m (placed (state .kept .classes-size)) ∙ next .class-is
 
-    moved-free : isFree (moved r m) m ≡ freeAfter edge (labelIn labels) (isFree r m) (head r m) (entry n edge (labelIn labels) (targetIn list m) (isFree r m) (head r m))
-    moved-free = free-is (moved r m) m (moved-class-is ∙ next-class tabled listed state m low d)
+    moved-free : isFree (moved r m) m ≡ next .class-then
+    moved-free = free-is (moved r m) m moved-class-is
 
     moved-same : (c : ℕ) → (m ≡ c → ⊥) → isFree (moved r m) c ≡ isFree r c
     unfolding isFree
     moved-same c e = ap (λ (x : ℕ). same x 0) (moved-classes r m c e)
 
-    moved-way : (c : ℕ) → c < k → OnIt c (ahead .taken c) (isFree (moved r m) c) (head (moved r m) c)
+    moved-way : (c : ℕ) → c < k → OnIt c (hopsTo n edge labels list c (ahead .taken c)) (isFree (moved r m) c) (head (moved r m) c)
     moved-way =
-        by-message (λ c. c < k → OnIt c (ahead .taken c) (isFree (moved r m) c) (head (moved r m) c))
-        (λ l. rw (taken-here s m, moved-free, moved-head r m (placed (state .kept .heads-size))) (next-way tabled listed state m low d))
+        by-message (λ c. c < k → OnIt c (hopsTo n edge labels list c (ahead .taken c)) (isFree (moved r m) c) (head (moved r m) c))
+        (λ l. rw (taken-here s m, moved-free, moved-head r m (placed (state .kept .heads-size))) (next .way))
         (λ c e l. rw (taken-there s m c e, moved-same c e, moved-heads r m c e) (state .way c l))
 
     moved-classed : (c : ℕ) → c < k → class (moved r m) c ≡ classOf (isFree (moved r m) c)
     moved-classed =
         by-message (λ c. c < k → class (moved r m) c ≡ classOf (isFree (moved r m) c))
-        (λ l. moved-class-is ∙ next-class tabled listed state m low d ∙ ap classOf (sym moved-free))
+        (λ l. moved-class-is ∙ ap classOf (sym moved-free))
         (λ c e l. moved-classes r m c e ∙ state .classed c l ∙ ap classOf (sym (moved-same c e)))
 
     pub moved-state : State n edge labels free falling list (moved r m) (taking s m)
@@ -207,9 +211,9 @@ module _ {n : ℕ} {edge : ℕ → ℕ → Bool} {labels free falling list : Lis
         left-case c (λ h z. ne-same (λ q. omega arith) ∙ sym (ne-same (λ q. e (omega arith)))) (λ h z. ap (λ (x : ℕ). same x (suc b)) z)
         ∙ state .says .held c b l ∙ sym (finishing-other itinerary keeps s m b c e)
 
-    arrived-at : (c : ℕ) → c < k → head (arrived r m) c ≡ getD (sourceIn list c ∷ routeIn n edge labels list c) (ended .taken c) 0
+    arrived-next : (c : ℕ) → c < k → want (arrived r m) c ≡ getD (itinerary c) (ended .taken c) allTaken
     unfolding arrived finishing
-    arrived-at = state .says .at
+    arrived-next = state .says .wants
 
     arrived-done : (c : ℕ) → c < k → isDelivered (arrived r m) c ≡ ended .done c
     arrived-done =
@@ -224,14 +228,14 @@ module _ {n : ℕ} {edge : ℕ → ℕ → Bool} {labels free falling list : Lis
     arrived-says : Says n edge labels list (arrived r m) ended
     arrived-says = record {
       lawful = finishing-lawful itinerary s m k (state .says .lawful) last;
-      at = arrived-at;
+      wants = arrived-next;
       done = arrived-done;
       held = λ c b. by-message (λ b. b < k → same (holder (arrived r m) c) (suc b) ≡ holds itinerary keeps ended b c) (λ l. gone-here c) (λ b e. gone-there b c e) b;
       owners = λ c. let o = state .says .owners c in left-case c (λ e z. omega arith) (λ e z. omega arith);
       count = arrived-count;
     }
 
-    arrived-way : (c : ℕ) → c < k → OnIt c (ended .taken c) (isFree (arrived r m) c) (head (arrived r m) c)
+    arrived-way : (c : ℕ) → c < k → OnIt c (hopsTo n edge labels list c (ended .taken c)) (isFree (arrived r m) c) (head (arrived r m) c)
     unfolding arrived finishing isFree
     arrived-way = state .way
 

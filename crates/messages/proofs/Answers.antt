@@ -3,8 +3,9 @@
 use mathlib.Core.Path.{_≡_, refl, sym, _∙_, ap}
 use mathlib.Core.Bool.{Bool, false}
 use mathlib.Core.List.{List}
-use mathlib.Core.Logic.{_⊎_, inl, inr, ⊎-elim, _↔_}
+use mathlib.Core.Logic.{_↔_}
 use Prim.Native.Nat.{ℕ, suc, _-_, _<_}
+use native.Mathlib.Nat.{le-of-eq}
 use native.Mathlib.Omega.{arith}
 use Rattle.finite.proofs.Truth.{no-tf, same-eq}
 use Rattle.lawful.specs.Turn.{labelIn}
@@ -13,21 +14,20 @@ use Rattle.refusal.specs.declared.Refusal.{Refusal}
 use Rattle.refusal.specs.declared.Refusal.the-variants.{Unknown}
 use Rattle.claims.proofs.Holding.{holds-held}
 use Rattle.claims.proofs.Waiting.{not-own}
-use Rattle.hops.specs.declared.HopAnswer.{HopAnswer}
-use Rattle.hops.specs.declared.HopAnswer.the-variants as hop
-use Rattle.hops.specs.Hop.{hasNext}
 use Rattle.hops.specs.Tabled.{Tabled}
 use Rattle.messages.specs.declared.Record.{Record}
 use Rattle.messages.specs.declared.Answer.the-variants.{Moved, Blocked, Refused}
 use Rattle.messages.specs.declared.Stepped.{Stepped}
-use Rattle.messages.specs.Step.{head, target, isDelivered, aheadOf, nextChannel, holder, moved, arrived, stepOf}
+use Rattle.messages.specs.Sizes.{maxChannels}
+use Rattle.messages.specs.Channels.{allTaken}
+use Rattle.messages.specs.Step.{want, isDelivered, holder, moved, arrived, stepOf}
 use Rattle.messages.specs.Runs.{Listed, messagesIn, itineraryIn, Reached, successful}
-use Rattle.messages.specs.Tells.{keeps, Says, BlockedBy, Took, Arrived, Tells, MoveFault, no-message, no-hop}
+use Rattle.messages.specs.Tells.{keeps, Says, BlockedBy, Took, Arrived, Tells, MoveFault, no-message, none-next}
 use Rattle.messages.proofs.Moves.{step-none, step-astray, Case, unknown, already, arrives, astray, waits, moves, step-case}
 use Rattle.messages.proofs.Channels.{channelRank}
 use Rattle.messages.proofs.Changes.{released-here, released-other, moved-holder, moved-holders, arrived-holders}
 use Rattle.messages.proofs.State.{State}
-use Rattle.messages.proofs.Hops.{all-taken, ahead-next, more-to-take, next-wanted, next-inside}
+use Rattle.messages.proofs.Next.{all-taken, more-to-take, next-wanted}
 use Rattle.messages.proofs.Total.{channels-rising}
 use Rattle.messages.proofs.Tried.{known, unknown-high, not-done, holder-low, holder-holds}
 use Rattle.messages.proofs.After.{moved-state, arrived-state}
@@ -41,31 +41,25 @@ unchanged r m = go (step-case r m)
     go (unknown t) h = refl
     go (already l u) h = refl
     go (arrives l u e) h = no-tf refl h
-    go (astray l u d a) h = refl
-    go (waits l u d a b) h = refl
-    go (moves l u d a z) h = no-tf refl h
+    go (astray l u d e) h = refl
+    go (waits l u d b) h = refl
+    go (moves l u d z) h = no-tf refl h
 
--- RULES 8.3: "refused, with 10, where there is no such message, or where it has a hop to go and hop answers none or a refusal", whatever record it is
+-- RULES 8.3: "refused, with 10, where there is no such message, or no channel comes next for it", whatever record it is
 pub move-refused-iff : (r : Record) (m : ℕ) (f : Refusal) → (stepOf r m .answer ≡ Refused f) ↔ ((f ≡ Unknown 0) × MoveFault r m)
 move-refused-iff r m f = (λ e. faulty (step-case r m) e, λ o. given (o .1) ∙ ap Refused (sym (o .0)))
   where
     given : MoveFault r m → stepOf r m .answer ≡ Refused (Unknown 0)
     given (no-message l) = ap (λ (z : Stepped). z .answer) (step-none r m l)
-    given (no-hop l u d a) =
-        ap (λ (z : Stepped). z .answer) (step-astray r m l u d (⊎-elim (λ e. ap hasNext e) (λ q. ap hasNext (q .1)) a))
-
-    no-node : (a : HopAnswer) → hasNext a ≡ false → (a ≡ hop.NoWay) ⊎ ((q : Refusal) × (a ≡ hop.Refused q))
-    no-node (hop.Next u c) h = no-tf refl h
-    no-node hop.NoWay h = inl refl
-    no-node (hop.Refused q) h = inr (q, refl)
+    given (none-next l u d e) = ap (λ (z : Stepped). z .answer) (step-astray r m l u d e)
 
     faulty : {x : Stepped} → Case r m x → x .answer ≡ Refused f → (f ≡ Unknown 0) × MoveFault r m
     faulty (unknown l) e = (cc, no-message l)
     faulty (already l u) e = let z : _≡_ {A = ℕ} 0 1 = cc in absurd (omega arith)
     faulty (arrives l u h) e = no-tf refl (ap successful e)
-    faulty (astray l u d a) e = (cc, no-hop l u d (no-node (aheadOf r m) a))
-    faulty (waits l u d a h) e = let z : _≡_ {A = ℕ} 0 1 = cc in absurd (omega arith)
-    faulty (moves l u d a h) e = no-tf refl (ap successful e)
+    faulty (astray l u d h) e = (cc, none-next l u d h)
+    faulty (waits l u d h) e = let z : _≡_ {A = ℕ} 0 1 = cc in absurd (omega arith)
+    faulty (moves l u d h) e = no-tf refl (ap successful e)
 
 -- RULES 2.3: "One message to a channel": a channel has one holder in the record
 pub one-message : {n : ℕ} {edge : ℕ → ℕ → Bool} {labels list : List ℕ} {r : Record} {s : Progress} → Says n edge labels list r s
@@ -84,7 +78,7 @@ module _ {n : ℕ} {edge : ℕ → ℕ → Bool} {labels free falling list : Lis
 
   module _ {r : Record} {s : Progress} (state : State n edge labels free falling list r s) (m : ℕ) (low : m < k) (u : isDelivered r m ≡ false) where
     -- a message that waits, waits for another one
-    waits-for : (head r m ≡ target r m → ⊥) → (b : ℕ) → b < k → holder r (nextChannel r m) ≡ suc b → BlockedBy k r m b
+    waits-for : want r m < maxChannels → (b : ℕ) → b < k → holder r (want r m) ≡ suc b → BlockedBy k r m b
     waits-for d b l e =
         let h = holder-holds tabled listed state m low d b l e in
         let own = not-own k itinerary keeps (channelRank n (labelIn labels)) s (state .says .lawful) (channels-rising tabled listed) m low (more-to-take tabled listed state m low d) in
@@ -95,22 +89,22 @@ module _ {n : ℕ} {edge : ℕ → ℕ → Bool} {labels free falling list : Lis
           holds-it = e;
         }
 
-    takes-one : (head r m ≡ target r m → ⊥) → holder r (nextChannel r m) ≡ 0 → Took n edge labels list r m (moved r m)
+    takes-one : want r m < maxChannels → holder r (want r m) ≡ 0 → Took n edge labels list r m (moved r m)
     takes-one d z = record {
       progress = s;
       before = state .says;
       more = more-to-take tabled listed state m low d;
       one = rw (sym (next-wanted tabled listed state m low d)) (record {
         free = z;
-        taken = moved-holder r m (let a = next-inside tabled listed state m low d in let b = state .kept .holders-size in omega arith);
+        taken = moved-holder r m (let b = state .kept .holders-size in omega arith);
         others = moved-holders r m;
       });
       then = moved-state tabled listed state m low (not-done tabled listed state m low u) d z .says;
     }
 
-    gives-back : head r m ≡ target r m → Arrived n edge labels list r m (arrived r m)
+    gives-back : want r m ≡ allTaken → Arrived n edge labels list r m (arrived r m)
     gives-back e =
-        let last = all-taken tabled listed state m low e in
+        let last = all-taken tabled listed state m low (le-of-eq (sym e)) .0 in
         let h = arrived-holders r m (state .kept .holders-size) in
         record {
           progress = s;
@@ -128,12 +122,11 @@ module _ {n : ℕ} {edge : ℕ → ℕ → Bool} {labels free falling list : Lis
   case-tells state m (unknown t) = (unknown-high tabled listed state m t, refl, refl)
   case-tells state m (already l u) = (known tabled listed state m l, u, refl)
   case-tells state m (arrives l u e) = let low = known tabled listed state m l in (low, u, gives-back state m low u e)
-  case-tells {r} state m (astray l u d a) =
-      no-tf (ahead-next tabled listed state m (known tabled listed state m l) d) a
-  case-tells {r} state m (waits l u d a h) =
+  case-tells state m (astray l u d e) = absurd (e (all-taken tabled listed state m (known tabled listed state m l) d .1))
+  case-tells {r} state m (waits l u d h) =
       let low = known tabled listed state m l in
-      (low, u, waits-for state m low u d (holder r (nextChannel r m) - 1) (holder-low tabled listed state m h) (omega arith), refl)
-  case-tells state m (moves l u d a z) = let low = known tabled listed state m l in (low, u, takes-one state m low u d z)
+      (low, u, waits-for state m low u d (holder r (want r m) - 1) (holder-low tabled listed state m h) (omega arith), refl)
+  case-tells state m (moves l u d z) = let low = known tabled listed state m l in (low, u, takes-one state m low u d z)
 
   module _ {r : Record} (run : Reached n labels free falling list r) (m : ℕ) where
     pub each-answer : Tells n edge labels list r m (stepOf r m .«record») (stepOf r m .answer)

@@ -1,4 +1,4 @@
--- What a move changes in the record: one head, one class and one channel, or one mark and the channels of one message.
+-- What a move changes in the record: of one message its head, its class, what it wants and one channel, or one mark and the channels of one message.
 use mathlib.Core.Path.{_≡_, sym, _∙_, ap}
 use mathlib.Core.Bool.{true}
 use Prim.Native.Nat.{ℕ, suc, _<_}
@@ -8,9 +8,9 @@ use lib.Seq.{getD-set-same, getD-set-other}
 use Rattle.finite.specs.Truth.{non, same, below}
 use Rattle.finite.proofs.Truth.{bcase, true-non, eq-same, ne-same, below-lt, below-le}
 use Rattle.finite.proofs.Lists.{tabulate-at, tabulate-out}
-use Rattle.messages.specs.Sizes.{maxPairs}
+use Rattle.messages.specs.Sizes.{maxChannels}
 use Rattle.messages.specs.declared.Record.{Record}
-use Rattle.messages.specs.Step.{head, class, isDelivered, nextNode, nextClass, nextChannel, holder, released, moved, arrived}
+use Rattle.messages.specs.Step.{want, head, class, isDelivered, aheadOf, holder, released, moved, arrived}
 
 pub released-here : (h holder : ℕ) → h ≡ holder → released holder h ≡ 0
 unfolding released
@@ -25,7 +25,7 @@ module _ (r : Record) (m : ℕ) where
   unfolding moved
   moved-heads c d = getD-set-other (r .heads) m c _ 0 (λ e. d (sym e))
 
-  pub moved-head : m < length (r .heads) → head (moved r m) m ≡ nextNode r m
+  pub moved-head : m < length (r .heads) → head (moved r m) m ≡ aheadOf r m .head
   unfolding moved
   moved-head l = getD-set-same (r .heads) m _ 0 l
 
@@ -33,17 +33,25 @@ module _ (r : Record) (m : ℕ) where
   unfolding moved
   moved-classes c d = getD-set-other (r .classes) m c _ 0 (λ e. d (sym e))
 
-  pub moved-class : m < length (r .classes) → class (moved r m) m ≡ nextClass r m
+  pub moved-class : m < length (r .classes) → class (moved r m) m ≡ aheadOf r m .class
   unfolding moved
   moved-class l = getD-set-same (r .classes) m _ 0 l
 
-  pub moved-holders : (c : ℕ) → (nextChannel r m ≡ c → ⊥) → holder (moved r m) c ≡ holder r c
+  pub moved-wants : (c : ℕ) → (m ≡ c → ⊥) → want (moved r m) c ≡ want r c
   unfolding moved
-  moved-holders c d = getD-set-other (r .holders) (nextChannel r m) c _ 0 (λ e. d (sym e))
+  moved-wants c d = getD-set-other (r .wants) m c _ 0 (λ e. d (sym e))
 
-  pub moved-holder : nextChannel r m < length (r .holders) → holder (moved r m) (nextChannel r m) ≡ suc m
+  pub moved-want : m < length (r .wants) → want (moved r m) m ≡ aheadOf r m .want
   unfolding moved
-  moved-holder l = getD-set-same (r .holders) (nextChannel r m) _ 0 l
+  moved-want l = getD-set-same (r .wants) m _ 0 l
+
+  pub moved-holders : (c : ℕ) → (want r m ≡ c → ⊥) → holder (moved r m) c ≡ holder r c
+  unfolding moved
+  moved-holders c d = getD-set-other (r .holders) (want r m) c _ 0 (λ e. d (sym e))
+
+  pub moved-holder : want r m < length (r .holders) → holder (moved r m) (want r m) ≡ suc m
+  unfolding moved
+  moved-holder l = getD-set-same (r .holders) (want r m) _ 0 l
 
   pub arrived-marks : (c : ℕ) → (m ≡ c → ⊥) → isDelivered (arrived r m) c ≡ isDelivered r c
   unfolding arrived isDelivered
@@ -53,11 +61,11 @@ module _ (r : Record) (m : ℕ) where
   unfolding arrived isDelivered
   arrived-mark l = ap (λ (x : ℕ). non (same x 0)) (getD-set-same (r .delivered) m _ 0 l) ∙ true-non (ne-same (λ e. omega arith))
 
-  pub arrived-holders : length (r .holders) ≡ maxPairs → (c : ℕ) → holder (arrived r m) c ≡ released (suc m) (holder r c)
+  pub arrived-holders : length (r .holders) ≡ maxChannels → (c : ℕ) → holder (arrived r m) c ≡ released (suc m) (holder r c)
   unfolding arrived
   arrived-holders e c =
-      bcase (below c maxPairs) (λ t. tabulate-at maxPairs _ c 0 (below-lt _ _ t))
+      bcase (below c maxChannels) (λ t. tabulate-at maxChannels _ c 0 (below-lt _ _ t))
       (λ t.
       let l = below-le _ _ t in
       let z : holder r c ≡ 0 = List·getD-eq-default (r .holders) 0 (omega arith) in
-      tabulate-out maxPairs _ c 0 l ∙ sym (released-other 0 (suc m) (λ q. omega arith)) ∙ ap (released (suc m)) (sym z))
+      tabulate-out maxChannels _ c 0 l ∙ sym (released-other 0 (suc m) (λ q. omega arith)) ∙ ap (released (suc m)) (sym z))

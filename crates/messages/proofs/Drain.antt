@@ -11,7 +11,7 @@ use Rattle.finite.specs.Search.{Some}
 use Rattle.finite.proofs.Truth.{no-tf, bcase, refute, non-false, same-eq, same-ne, eq-same, below-lt, below-le}
 use Rattle.finite.proofs.Sum.{when-true, when-false}
 use Rattle.finite.proofs.Search.{find}
-use Rattle.nodes.specs.Limits.{maxNodes}
+use Rattle.messages.specs.Sizes.{nodeChannels}
 use Rattle.claims.specs.Claims.{Progress, holds}
 use Rattle.claims.proofs.Holding.{holds-held}
 use Rattle.claims.proofs.Counting.{made-le, made-whole, all-free}
@@ -51,7 +51,7 @@ module _ {n : ℕ} {edge : ℕ → ℕ → Bool} {labels free falling list : Lis
     pub progress : Some k (λ m. non (isDelivered r m)) → Some k (λ m. successful (stepOf r m .answer))
     progress = some-succeeds tabled listed state
 
-    -- RULES 2.3: "Successful moves never exceed the sum, over all messages, of (shortest lawful hops + 1)."
+    -- RULES 2.3: "Successful moves never exceed the sum, over all messages, of (shortest lawful hops + 3)."
     pub never-more : r .moves ≤ allMoves n edge labels list
     never-more =
         let e = state .says .count in
@@ -81,11 +81,11 @@ module _ {n : ℕ} {edge : ℕ → ℕ → Bool} {labels free falling list : Lis
         no-tf (eq-same {a = holder r c} {b = suc b} (omega arith)) (state .says .held c b l ∙ none b l))
 
     -- RULES 2.3: "and then every channel is free"
-    pub every-link-free : ((m : ℕ) → m < k → isDelivered r m ≡ true) → (c : ℕ) → holder r c ≡ 0
-    every-link-free h c = unheld c (λ b l. all-free k itinerary keeps so-far (λ m i. sym (state .says .done m i) ∙ h m i) b l c)
+    pub every-channel-free : ((m : ℕ) → m < k → isDelivered r m ≡ true) → (c : ℕ) → holder r c ≡ 0
+    every-channel-free h c = unheld c (λ b l. all-free k itinerary keeps so-far (λ m i. sym (state .says .done m i) ∙ h m i) b l c)
 
-    -- only channels between the n nodes are ever held
-    pub free-from : FreeFrom (maxNodes * n) (r .holders)
+    -- only channels of the n nodes are ever held
+    pub free-from : FreeFrom (nodeChannels * n) (r .holders)
     free-from = record {
       none = λ c past.
           unheld c (λ b l.
@@ -112,9 +112,9 @@ module _ {n : ℕ} {edge : ℕ → ℕ → Bool} {labels free falling list : Lis
     case-counts (unknown t) h = no-tf h refl
     case-counts (already l u) h = no-tf h refl
     case-counts (arrives l u e) h = counts
-    case-counts (astray l u d a) h = no-tf h refl
-    case-counts (waits l u d a b) h = no-tf h refl
-    case-counts (moves l u d a z) h = counts
+    case-counts (astray l u d e) h = no-tf h refl
+    case-counts (waits l u d b) h = no-tf h refl
+    case-counts (moves l u d z) h = counts
 
     -- RULES 8.3: "Moved and delivered are one successful move each."
     pub counts-one : (m : ℕ) → successful (stepOf r m .answer) ≡ true → stepOf r m .«record» .moves ≡ suc (r .moves)

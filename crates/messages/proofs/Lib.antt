@@ -3,11 +3,12 @@ pub mod Channels
 pub mod Way
 pub mod Changes
 pub mod State
-pub mod Hops
 pub mod Total
+pub mod Next
 pub mod Tried
 pub mod After
 pub mod Reached
 pub mod Answers
+pub mod InOut
 pub mod Drain
 pub mod Ready

@@ -1,7 +1,9 @@
 -- Every record that a start and moves lead to is in a state.
+use mathlib.Core.Path.{sym}
 use mathlib.Core.Bool.{Bool}
 use mathlib.Core.List.{List}
 use Prim.Native.Nat.{ℕ}
+use native.Mathlib.Nat.{le-of-eq}
 use Rattle.claims.specs.Claims.{Progress, taking, finishing}
 use Rattle.hops.specs.Tabled.{Tabled}
 use Rattle.messages.specs.declared.Record.{Record}
@@ -9,7 +11,7 @@ use Rattle.messages.specs.declared.Stepped.{Stepped}
 use Rattle.messages.specs.Runs.{Listed, Reached, fresh, move}
 use Rattle.messages.proofs.Moves.{Case, unknown, already, arrives, astray, waits, moves, step-case}
 use Rattle.messages.proofs.State.{State, none-taken, start-state}
-use Rattle.messages.proofs.Hops.{all-taken}
+use Rattle.messages.proofs.Next.{all-taken}
 use Rattle.messages.proofs.Tried.{known, not-done}
 use Rattle.messages.proofs.After.{moved-state, arrived-state}
 
@@ -21,10 +23,10 @@ module _ {n : ℕ} {edge : ℕ → ℕ → Bool} {labels free falling list : Lis
   case-state {s = s} state m (already l u) = (s, state)
   case-state {s = s} state m (arrives l u e) =
       let low = known tabled listed state m l in
-      (finishing s m, arrived-state tabled listed state m low (not-done tabled listed state m low u) (all-taken tabled listed state m low e))
-  case-state {s = s} state m (astray l u d a) = (s, state)
-  case-state {s = s} state m (waits l u d a h) = (s, state)
-  case-state {s = s} state m (moves l u d a h) =
+      (finishing s m, arrived-state tabled listed state m low (not-done tabled listed state m low u) (all-taken tabled listed state m low (le-of-eq (sym e)) .0))
+  case-state {s = s} state m (astray l u d e) = (s, state)
+  case-state {s = s} state m (waits l u d h) = (s, state)
+  case-state {s = s} state m (moves l u d h) =
       let low = known tabled listed state m l in (taking s m, moved-state tabled listed state m low (not-done tabled listed state m low u) d h)
 
   pub reached-state : {r : Record} → Reached n labels free falling list r → (s : Progress) × State n edge labels free falling list r s

@@ -3,20 +3,19 @@ use mathlib.Core.Path.{_≡_, refl, sym, _∙_, ap}
 use mathlib.Core.Bool.{Bool, true, false}
 use mathlib.Core.List.{List}
 use mathlib.Core.Logic.{⊎-elim}
-use Prim.Native.Nat.{ℕ, _<_}
+use Prim.Native.Nat.{ℕ, _≤_, _<_}
 use native.Mathlib.Omega.{arith}
 use lib.ListN.{getD}
 use Rattle.finite.specs.Truth.{_&_, _or_, non, same}
 use Rattle.finite.specs.Search.{Some}
-use Rattle.finite.proofs.Truth.{no-tf, non-true, non-false, eq-same, ne-same}
+use Rattle.finite.proofs.Truth.{no-tf, non-true, non-false, eq-same, ne-same, lt-below, le-below}
 use Rattle.finite.proofs.Search.{find, every-all, all-every}
-use Rattle.hops.specs.declared.HopAnswer.{HopAnswer}
-use Rattle.hops.specs.declared.HopAnswer.the-variants.{Next}
-use Rattle.hops.specs.Hop.{hopWithin, hasNext, nextIn}
 use Rattle.hops.specs.Tabled.{Tabled}
 use Rattle.messages.specs.declared.Record.{Record}
 use Rattle.messages.specs.declared.Stepped.{Stepped}
-use Rattle.messages.specs.Step.{head, target, isDelivered, aheadOf, channel, nextChannel, holder, stepOf}
+use Rattle.messages.specs.Sizes.{maxChannels}
+use Rattle.messages.specs.Channels.{allTaken}
+use Rattle.messages.specs.Step.{want, isDelivered, holder, unheldIn, stepOf}
 use Rattle.messages.specs.Runs.{Listed, messagesIn, Reached, successful}
 use Rattle.messages.specs.Ready.{messagesOf, readyIn, ready, allDelivered}
 use Rattle.messages.proofs.Moves.{Case, unknown, already, arrives, astray, waits, moves, step-case}
@@ -24,48 +23,42 @@ use Rattle.messages.proofs.State.{few-messages}
 use Rattle.messages.proofs.Reached.{reached-state}
 use Rattle.messages.proofs.Drain.{progress}
 
-module _ (nodes : ℕ) (labels free falling holders : List ℕ) (head target class mark : ℕ) where
-  pub in-never : same mark 0 ≡ false → false ≡ readyIn nodes labels free falling holders head target class mark
+module _ (holders : List ℕ) (want mark : ℕ) where
+  pub in-never : same mark 0 ≡ false → false ≡ readyIn holders want mark
   unfolding readyIn _&_
   in-never d = rw (d, readyIn)
 
-  module _ (d : same mark 0 ≡ true) where
-    pub in-there : same head target ≡ true → true ≡ readyIn nodes labels free falling holders head target class mark
+  module _ (d : same mark 0 ≡ true) {c : ℕ} (is : c ≡ want) where
+    pub in-home : c ≡ allTaken → true ≡ readyIn holders want mark
     unfolding readyIn _&_ _or_
-    in-there e = rw (d, readyIn, e)
+    in-home e = rw (d, readyIn, eq-same (sym is ∙ e))
 
-    module _ (e : same head target ≡ false) {answer : HopAnswer} (asked : answer ≡ hopWithin labels free falling nodes head class target) where
-      pub in-astray : hasNext answer ≡ false → false ≡ readyIn nodes labels free falling holders head target class mark
+    module _ (e : c ≡ allTaken → ⊥) where
+      pub in-astray : maxChannels ≤ c → false ≡ readyIn holders want mark
       unfolding readyIn _&_ _or_
-      in-astray a = rw (d, readyIn, e, ap hasNext (sym asked) ∙ a)
+      in-astray past = let p : maxChannels ≤ want = omega arith in rw (d, readyIn, ne-same (λ q. e (is ∙ q)), le-below p)
 
-      pub in-next : hasNext answer ≡ true → same (getD holders (channel head (nextIn answer)) 0) 0 ≡ readyIn nodes labels free falling holders head target class mark
-      unfolding readyIn _&_ _or_
-      in-next a = rw (d, readyIn, e, ap hasNext (sym asked) ∙ a, asked)
-
-      pub in-found : {next then c h : ℕ} → answer ≡ Next next then → c ≡ channel head next → h ≡ getD holders c 0
-          → same h 0 ≡ readyIn nodes labels free falling holders head target class mark
-      in-found q way who =
-          ap (λ (x : ℕ). same x 0) (who ∙ ap (λ (x : ℕ). getD holders x 0) (way ∙ ap (channel head) (sym (ap nextIn q)))) ∙ in-next (ap hasNext q)
+      pub in-next : c < maxChannels → {h : ℕ} → h ≡ getD holders c 0 → same h 0 ≡ readyIn holders want mark
+      unfolding readyIn unheldIn _&_ _or_
+      in-next l who = let p : want < maxChannels = omega arith in rw (d, readyIn, ne-same (λ q. e (is ∙ q)), lt-below p) (ap (λ (x : ℕ). same x 0) (who ∙ ap (λ (x : ℕ). getD holders x 0) is))
 
 module _ (r : Record) (m : ℕ) where
   ready-never : isDelivered r m ≡ true → false ≡ ready r m
   unfolding ready isDelivered
-  ready-never d = in-never _ _ _ _ _ _ _ _ _ (non-true _ d)
+  ready-never d = in-never _ _ _ (non-true _ d)
 
   module _ (d : isDelivered r m ≡ false) where
-    ready-there : same (head r m) (target r m) ≡ true → true ≡ ready r m
+    ready-home : want r m ≡ allTaken → true ≡ ready r m
     unfolding ready isDelivered
-    ready-there e = in-there _ _ _ _ _ _ _ _ _ (non-false _ d) e
+    ready-home e = in-home _ _ _ (non-false _ d) refl e
 
-    module _ (e : same (head r m) (target r m) ≡ false) where
-      ready-astray : hasNext (aheadOf r m) ≡ false → false ≡ ready r m
-      unfolding ready isDelivered aheadOf
-      ready-astray a = in-astray _ _ _ _ _ _ _ _ _ (non-false _ d) e refl a
+    ready-astray : maxChannels ≤ want r m → (want r m ≡ allTaken → ⊥) → false ≡ ready r m
+    unfolding ready isDelivered
+    ready-astray past e = in-astray _ _ _ (non-false _ d) refl e past
 
-      ready-next : hasNext (aheadOf r m) ≡ true → same (holder r (nextChannel r m)) 0 ≡ ready r m
-      unfolding ready isDelivered aheadOf
-      ready-next a = in-next _ _ _ _ _ _ _ _ _ (non-false _ d) e refl a
+    ready-next : want r m < maxChannels → same (holder r (want r m)) 0 ≡ ready r m
+    unfolding ready isDelivered
+    ready-next l = in-next _ _ _ (non-false _ d) refl (λ e. omega arith) l refl
 
   -- ready: a move of it is successful
   pub ready-moves : m < messagesOf r → ready r m ≡ successful (stepOf r m .answer)
@@ -74,10 +67,10 @@ module _ (r : Record) (m : ℕ) where
       go : {x : Stepped} → Case r m x → ready r m ≡ successful (x .answer)
       go (unknown k) = absurd (omega arith)
       go (already k u) = sym (ready-never u)
-      go (arrives k u e) = sym (ready-there u (eq-same e))
-      go (astray k u d a) = sym (ready-astray u (ne-same d) a)
-      go (waits k u d a b) = sym (ready-next u (ne-same d) a) ∙ ne-same b
-      go (moves k u d a z) = sym (ready-next u (ne-same d) a) ∙ eq-same z
+      go (arrives k u e) = sym (ready-home u e)
+      go (astray k u d e) = sym (ready-astray u d e)
+      go (waits k u d b) = sym (ready-next u d) ∙ ne-same b
+      go (moves k u d z) = sym (ready-next u d) ∙ eq-same z
 
 -- all are delivered, or one is not
 pub every-delivered : (r : Record) → ((m : ℕ) → m < messagesOf r → isDelivered r m ≡ true) → true ≡ allDelivered r

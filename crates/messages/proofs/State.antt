@@ -1,8 +1,8 @@
--- The state of a run: the record says how far each message is, each message is on its way, and the tables are those of the start.
+-- The state of a run: the record says which channels each message has taken, each message is on its way, and the tables are those of the start.
 use mathlib.Core.Path.{_≡_, refl, sym, _∙_, ap}
 use mathlib.Core.Bool.{Bool, true, false}
 use mathlib.Core.List.{List}
-use Prim.Native.Nat.{ℕ, suc, _+_, _*_, _≤_, _<_, zero-le}
+use Prim.Native.Nat.{ℕ, suc, _+_, _*_, _≤_, _<_, min, zero-le}
 use native.Mathlib.Omega.{arith}
 use lib.ListN.{length, getD, length-replicate}
 use Rattle.finite.specs.Truth.{non, same}
@@ -15,9 +15,10 @@ use Rattle.claims.specs.Claims.{Progress, made}
 use Rattle.claims.proofs.Holding.{holds-held}
 use Rattle.hops.specs.Tabled.{classOf, Tabled}
 use Rattle.hops.proofs.Leads.{class-is-free}
-use Rattle.messages.specs.Sizes.{maxMessages, maxPairs}
+use Rattle.messages.specs.Sizes.{maxMessages, maxChannels}
+use Rattle.messages.specs.Channels.{injection, allTaken}
 use Rattle.messages.specs.declared.Record.{Record}
-use Rattle.messages.specs.Step.{head, target, class, isDelivered}
+use Rattle.messages.specs.Step.{want, head, target, class, isDelivered}
 use Rattle.messages.specs.Fresh.{sourceIn, targetIn, zeros, begunOf}
 use Rattle.messages.specs.Runs.{Listed, messagesIn, routeIn, itineraryIn}
 use Rattle.messages.specs.Tells.{keeps, Says}
@@ -33,8 +34,9 @@ pub record Kept (n : ℕ) (labels free falling list : List ℕ) (r : Record) : T
   pub targets : (m : ℕ) → m < maxMessages → target r m ≡ targetIn list m
   pub heads-size : length (r .heads) ≡ maxMessages
   pub classes-size : length (r .classes) ≡ maxMessages
+  pub wants-size : length (r .wants) ≡ maxMessages
   pub delivered-size : length (r .delivered) ≡ maxMessages
-  pub holders-size : length (r .holders) ≡ maxPairs
+  pub holders-size : length (r .holders) ≡ maxChannels
 
 -- the message is free: RULES 5.1, "(class 0)"
 unfoldable pub isFree : Record → ℕ → Bool
@@ -49,10 +51,14 @@ free-is r m {c} e = ap (λ (x : ℕ). same x 0) e ∙ class-is-free c
 abbrev pub OnRoute : ℕ → (ℕ → ℕ → Bool) → List ℕ → List ℕ → ℕ → ℕ → Bool → ℕ → Type 0
 OnRoute n edge labels list m = OnWay n edge (labelIn labels) (sourceIn list m) (targetIn list m) (routeIn n edge labels list m)
 
+-- how many hops along its route the head of message m is once it has taken channel j: as many as channels are taken before it, and all of them at the end
+abbrev pub hopsTo : ℕ → (ℕ → ℕ → Bool) → List ℕ → List ℕ → ℕ → ℕ → ℕ
+hopsTo n edge labels list m j = min j (length (routeIn n edge labels list m))
+
 pub record State (n : ℕ) (edge : ℕ → ℕ → Bool) (labels free falling list : List ℕ) (r : Record) (s : Progress) : Type 0 where
   pub says : Says n edge labels list r s
   pub kept : Kept n labels free falling list r
-  pub way : (m : ℕ) → m < messagesIn list → OnRoute n edge labels list m (s .taken m) (isFree r m) (head r m)
+  pub way : (m : ℕ) → m < messagesIn list → OnRoute n edge labels list m (hopsTo n edge labels list m (s .taken m)) (isFree r m) (head r m)
   pub classed : (m : ℕ) → m < messagesIn list → class r m ≡ classOf (isFree r m)
 
 -- nobody has taken anything
@@ -98,13 +104,18 @@ module _ {n : ℕ} {edge : ℕ → ℕ → Bool} {labels free falling list : Lis
     targets = λ m l. tabulate-at maxMessages (targetIn list) m 0 l;
     heads-size = tabulate-length maxMessages (sourceIn list);
     classes-size = zeros-length maxMessages;
+    wants-size = tabulate-length maxMessages _;
     delivered-size = zeros-length maxMessages;
-    holders-size = zeros-length maxPairs;
+    holders-size = zeros-length maxChannels;
   }
 
   start-head : (m : ℕ) → m < messagesIn list → head start m ≡ sourceIn list m
   unfolding begunOf
   start-head m l = let b = few-messages in tabulate-at maxMessages (sourceIn list) m 0 (omega arith)
+
+  start-want : (m : ℕ) → m < messagesIn list → want start m ≡ getD (itineraryIn n edge labels list m) 0 allTaken
+  unfolding begunOf itineraryIn
+  start-want m l = let b = few-messages in tabulate-at maxMessages (λ m. injection (sourceIn list m)) m 0 (omega arith)
 
   start-class : (m : ℕ) → class start m ≡ 0
   unfolding begunOf
@@ -117,20 +128,21 @@ module _ {n : ℕ} {edge : ℕ → ℕ → Bool} {labels free falling list : Lis
   unfolding begunOf isDelivered
   start-says = record {
     lawful = record { within = λ m l. zero-le; finished = λ m l d. no-tf d refl };
-    at = start-head;
+    wants = start-want;
     done = λ m l. ap (λ (x : ℕ). non (same x 0)) (zeros-at maxMessages m) ∙ false-non (same-refl 0);
     held = λ c m l.
-        ap (λ (x : ℕ). same x (suc m)) (zeros-at maxPairs c) ∙ ne-same (λ e. omega arith)
+        ap (λ (x : ℕ). same x (suc m)) (zeros-at maxChannels c) ∙ ne-same (λ e. omega arith)
         ∙ sym (refute _ (λ h. let b = holds-held (itineraryIn n edge labels list) keeps none-taken m c h .before in omega arith));
-    owners = λ c. let z = zeros-at maxPairs c in omega arith;
+    owners = λ c. let z = zeros-at maxChannels c in omega arith;
     count = sym (none-made (messagesIn list));
   }
 
-  start-way : (m : ℕ) → m < messagesIn list → OnRoute n edge labels list m 0 (isFree start m) (head start m)
+  start-way : (m : ℕ) → m < messagesIn list → OnRoute n edge labels list m (hopsTo n edge labels list m 0) (isFree start m) (head start m)
   unfolding routeIn
   start-way m l =
+      let z : hopsTo n edge labels list m 0 ≡ 0 = omega arith in
       let r = climbing-run n edge (labelIn labels) (tabled .climbing) (tabled .network .undirected) (sourceIn list m) (targetIn list m) (source-low m l) (target-low m l) in
-      rw (start-free m, start-head m l)
+      rw (z, start-free m, start-head m l)
       (way-start (tabled .network .inside) (target-low m l) (source-low m l) _ (r .1))
 
   pub start-state : State n edge labels free falling list start none-taken

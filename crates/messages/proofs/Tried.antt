@@ -13,14 +13,15 @@ use Rattle.claims.proofs.Waiting.{some-can-step}
 use Rattle.hops.specs.Tabled.{Tabled}
 use Rattle.messages.specs.declared.Record.{Record}
 use Rattle.messages.specs.declared.Stepped.{Stepped}
-use Rattle.messages.specs.Step.{head, target, isDelivered, nextChannel, holder, stepOf}
+use Rattle.messages.specs.Sizes.{maxChannels}
+use Rattle.messages.specs.Step.{want, isDelivered, holder, stepOf}
 use Rattle.messages.specs.Runs.{Listed, messagesIn, itineraryIn, successful}
 use Rattle.messages.specs.Tells.{keeps}
 use Rattle.messages.specs.Ready.{messagesOf}
 use Rattle.messages.proofs.Moves.{Case, unknown, already, arrives, astray, waits, moves, step-case}
 use Rattle.messages.proofs.Channels.{channelRank}
 use Rattle.messages.proofs.State.{State, few-messages}
-use Rattle.messages.proofs.Hops.{ahead-next, more-to-take, next-wanted}
+use Rattle.messages.proofs.Next.{all-taken, more-to-take, next-wanted}
 use Rattle.messages.proofs.Total.{channels-rising}
 
 module _ {n : ℕ} {edge : ℕ → ℕ → Bool} {labels free falling list : List ℕ} (tabled : Tabled n edge labels free falling) (listed : Listed n list)
@@ -42,12 +43,12 @@ module _ {n : ℕ} {edge : ℕ → ℕ → Bool} {labels free falling list : Lis
     not-done l u = sym (state .says .done m l) ∙ u
 
     -- a next channel that is held has one of the messages for its holder, and by the claims too that one holds what m wants
-    pub holder-low : (holder r (nextChannel r m) ≡ 0 → ⊥) → holder r (nextChannel r m) - 1 < k
-    holder-low h = let o = state .says .owners (nextChannel r m) in omega arith
+    pub holder-low : (holder r (want r m) ≡ 0 → ⊥) → holder r (want r m) - 1 < k
+    holder-low h = let o = state .says .owners (want r m) in omega arith
 
-    pub holder-holds : m < k → (head r m ≡ target r m → ⊥) → (b : ℕ) → b < k → holder r (nextChannel r m) ≡ suc b → holds itinerary keeps s b (wanted itinerary s m) ≡ true
+    pub holder-holds : m < k → want r m < maxChannels → (b : ℕ) → b < k → holder r (want r m) ≡ suc b → holds itinerary keeps s b (wanted itinerary s m) ≡ true
     holder-holds low d b l e =
-        sym (ap (holds itinerary keeps s b) (next-wanted tabled listed state m low d)) ∙ sym (state .says .held (nextChannel r m) b l) ∙ eq-same e
+        sym (ap (holds itinerary keeps s b) (next-wanted tabled listed state m low d)) ∙ sym (state .says .held (want r m) b l) ∙ eq-same e
 
     -- what the claims allow, the machine does
     can-succeed : m < k → {x : Stepped} → Case r m x → CanStep k itinerary keeps s m → successful (x .answer) ≡ true
@@ -55,10 +56,10 @@ module _ {n : ℕ} {edge : ℕ → ℕ → Bool} {labels free falling list : Lis
     can-succeed low (already l u) (can-take f b h) = no-tf (sym (state .says .done m low) ∙ u) f
     can-succeed low (already l u) (can-finish f e) = no-tf (sym (state .says .done m low) ∙ u) f
     can-succeed low (arrives l u e) c = refl
-    can-succeed low (astray l u d a) c = no-tf (ahead-next tabled listed state m low d) a
-    can-succeed low (waits l u d a h) (can-take f b none) = let i = holder-low h in no-tf (holder-holds low d _ i (omega arith)) (none _ i)
-    can-succeed low (waits l u d a h) (can-finish f e) = let b = more-to-take tabled listed state m low d in absurd (omega arith)
-    can-succeed low (moves l u d a h) c = refl
+    can-succeed low (astray l u d e) c = absurd (e (all-taken tabled listed state m low d .1))
+    can-succeed low (waits l u d h) (can-take f b none) = let i = holder-low h in no-tf (holder-holds low d _ i (omega arith)) (none _ i)
+    can-succeed low (waits l u d h) (can-finish f e) = let b = more-to-take tabled listed state m low d in absurd (omega arith)
+    can-succeed low (moves l u d h) c = refl
 
   -- while any is undelivered some message can move
   pub some-succeeds : Some k (λ m. non (isDelivered r m)) → Some k (λ m. successful (stepOf r m .answer))

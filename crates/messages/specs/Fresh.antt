@@ -4,7 +4,8 @@ use Prim.Native.Nat.{ℕ, _+_, _*_, _/_, min}
 use lib.ListN.{length, getD, replicate}
 use Rattle.finite.specs.Lists.{tabulate}
 use Rattle.nodes.specs.Limits.{maxNodes}
-use Rattle.messages.specs.Sizes.{maxMessages, maxPairs}
+use Rattle.messages.specs.Sizes.{maxMessages, maxPairs, maxChannels}
+use Rattle.messages.specs.Channels.{injection}
 use Rattle.messages.specs.declared.Record.{Record}
 
 -- RULES 8.2: "a list of byte pairs (source, destination)": byte 2 m of it is the source of message m, byte 2 m + 1 its destination
@@ -17,7 +18,8 @@ targetIn list m = getD list (2 * m + 1) 0
 unfoldable pub zeros : ℕ → List ℕ
 zeros n = replicate n 0
 
--- every message stands free at its source, nothing is delivered, no channel is held, and, RULES 8.2: "The number of moves is 0 again."
+-- every message wants the injection channel of its source and is free there, nothing is delivered, and, RULES 8.2: "No channel is held, and the number of moves
+-- is 0 again."
 unfoldable pub begunOf : ℕ → List ℕ → List ℕ → List ℕ → List ℕ → Record
 begunOf n labels free falling list = record {
   nodes = n;
@@ -29,8 +31,9 @@ begunOf n labels free falling list = record {
   targets = tabulate maxMessages (targetIn list);
   heads = tabulate maxMessages (sourceIn list);
   classes = zeros maxMessages;
+  wants = tabulate maxMessages (λ m. injection (sourceIn list m));
   delivered = zeros maxMessages;
-  holders = zeros maxPairs;
+  holders = zeros maxChannels;
 }
 
 -- a record to start with: no nodes, no messages

@@ -1,4 +1,5 @@
 pub mod Sizes
+pub mod Channels
 pub mod Step
 pub mod Fresh
 pub mod Runs

@@ -1,4 +1,4 @@
--- Runs of the machine: what a start guarantees, the records that moves lead to from there, and the sum of (hops + 1).
+-- Runs of the machine: what a start guarantees, the records that moves lead to from there, and the sum of (hops + 3).
 use mathlib.Core.Bool.{Bool, true, false}
 use mathlib.Core.List.{List, [], _∷_}
 use Prim.Native.Nat.{ℕ, _+_, _/_, _≤_, _<_}
@@ -10,7 +10,8 @@ use Rattle.messages.specs.declared.Record.{Record}
 use Rattle.messages.specs.declared.Answer.{Answer}
 use Rattle.messages.specs.declared.Answer.the-variants.{Already, Moved, Blocked, Delivered, Refused}
 use Rattle.messages.specs.Sizes.{maxList}
-use Rattle.messages.specs.Step.{channel, stepOf}
+use Rattle.messages.specs.Channels.{hopChannel, injection, consumption}
+use Rattle.messages.specs.Step.{stepOf}
 use Rattle.messages.specs.Fresh.{sourceIn, targetIn, begunOf}
 
 -- RULES 8.2: "a list of byte pairs (source, destination), 0 to 256 of them", each byte a node. That the pairs are whole is not asked: a last byte
@@ -22,21 +23,23 @@ pub record Listed (n : ℕ) (list : List ℕ) : Type 0 where
 unfoldable pub messagesIn : List ℕ → ℕ
 messagesIn list = length list / 2
 
--- the nodes after message m's source on its table's route, and the channels between them
+-- the nodes after message m's source on its table's route
 unfoldable pub routeIn : ℕ → (ℕ → ℕ → Bool) → List ℕ → List ℕ → ℕ → List ℕ
 routeIn n edge labels list m = routeOf n edge (labelIn labels) (sourceIn list m) (targetIn list m)
 
-abbrev pub channelsOf : ℕ → List ℕ → List ℕ
-channelsOf v [] = []
-channelsOf v (u ∷ l) = channel v u ∷ channelsOf u l
+-- the channels of the hops from a node on, and then the consumption channel of the destination t
+abbrev pub channelsTo : ℕ → ℕ → List ℕ → List ℕ
+channelsTo t v [] = consumption t ∷ []
+channelsTo t v (u ∷ l) = hopChannel v u ∷ channelsTo t u l
 
+-- RULES 8.3: "the injection channel of its source, those of the hops of its route, the consumption channel of its destination"
 unfoldable pub itineraryIn : ℕ → (ℕ → ℕ → Bool) → List ℕ → List ℕ → ℕ → List ℕ
-itineraryIn n edge labels list m = channelsOf (sourceIn list m) (routeIn n edge labels list m)
+itineraryIn n edge labels list m = injection (sourceIn list m) ∷ channelsTo (targetIn list m) (sourceIn list m) (routeIn n edge labels list m)
 
--- RULES 2.3: "the sum, over all messages, of (shortest lawful hops + 1)": of each the hops of its route, plus one; that these are the shortest is
+-- RULES 2.3: "the sum, over all messages, of (shortest lawful hops + 3)": of each the hops of its route, plus three; that these are the shortest is
 -- `sum-of-shortest` (proofs/Total)
 unfoldable pub allMoves : ℕ → (ℕ → ℕ → Bool) → List ℕ → List ℕ → ℕ
-allMoves n edge labels list = sumTo (messagesIn list) (λ m. length (routeIn n edge labels list m) + 1)
+allMoves n edge labels list = sumTo (messagesIn list) (λ m. length (routeIn n edge labels list m) + 3)
 
 -- the records that a start and moves of any messages in any order lead to
 pub data Reached (n : ℕ) (labels free falling list : List ℕ) : Record → Type 0 where

@@ -1,5 +1,5 @@
 -- How large a drain record is. Every other place cites these names.
-use Prim.Native.Nat.{ℕ, _*_, _-_, _^_}
+use Prim.Native.Nat.{ℕ, _+_, _*_, _-_, _^_}
 use Rattle.nodes.specs.Limits.{maxNodes}
 
 -- RULES 8.2: "0 to 256 of them"
@@ -10,9 +10,16 @@ maxMessages = 256
 abbrev pub maxList : ℕ
 maxList = 2 * maxMessages
 
--- a channel and an entry of a table belong to a pair of nodes
+-- an entry of a table belongs to a pair of nodes
 abbrev pub maxPairs : ℕ
 maxPairs = maxNodes * maxNodes
+
+-- a node has a channel to each node, and two of its own
+abbrev pub nodeChannels : ℕ
+nodeChannels = maxNodes + 2
+
+abbrev pub maxChannels : ℕ
+maxChannels = nodeChannels * maxNodes
 
 -- the largest count that a record can hold
 abbrev pub maxCount : ℕ

@@ -3,7 +3,7 @@ use mathlib.Core.Path.{_≡_, ap}
 use Prim.Native.Nat.{ℕ}
 use lib.ListN.{length}
 use Rattle.seeds.specs.Seed.{nextSeed, lookAt}
-use Rattle.messages.specs.Sizes.{maxPairs}
+use Rattle.messages.specs.Sizes.{maxChannels}
 use Rattle.messages.specs.declared.Record.{Record}
 use Rattle.messages.specs.declared.Answer.{Answer}
 use Rattle.messages.specs.declared.Stepped.{Stepped}
@@ -16,14 +16,14 @@ use Rattle.picking.specs.Order.{chosenBy, chosen, pickOf}
 use Rattle.picking.specs.InPlace.{picked, pickIn}
 
 pub picked-in : (span seed : ℕ) (r : Record) {next n look message : ℕ} {x : Record} {a : Answer} → next ≡ nextSeed seed → n ≡ messagesOf r → look ≡ lookAt next n
-    → message ≡ chosenBy (messagesOf r) (readyAt (r .nodes) (r .labels) (r .free) (r .falling) (r .targets) (r .heads) (r .classes) (r .delivered) (r .holders)) look
+    → message ≡ chosenBy (messagesOf r) (readyAt (r .wants) (r .delivered) (r .holders)) look
     → with x a ≡ stepIn span r message → picked next look message x ≡ pickIn span seed r
 unfolding pickIn ready
 picked-in span seed r e f g h i =
     let s = ap (λ (y : Stepped). y .«record») i in
     cc
 
-pub pick-in : (span seed : ℕ) (r : Record) → length (r .holders) ≡ maxPairs → FreeFrom span (r .holders) → pickIn span seed r ≡ pickOf seed r
+pub pick-in : (span seed : ℕ) (r : Record) → length (r .holders) ≡ maxChannels → FreeFrom span (r .holders) → pickIn span seed r ≡ pickOf seed r
 unfolding pickIn pickOf
 pick-in span seed r size free =
     let m : ℕ = chosen r (lookAt (nextSeed seed) (messagesOf r)) in

@@ -1,4 +1,4 @@
--- A pick in arrays that stay in their place: that of the record which they make, but a message that arrives gives back only channels below a bound.
+-- A pick in arrays that stay in their place: that of the record which they make, but a message that is delivered gives back only channels below a bound.
 use Prim.Native.Nat.{ℕ}
 use Rattle.seeds.specs.Seed.{nextSeed, lookAt}
 use Rattle.messages.specs.declared.Record.{Record}

@@ -6,6 +6,7 @@ ghost use Rattle.messages.specs.Ready.{readyAt};
 ghost use Rattle.machine.specs.InPlace.{packed};
 ghost use Rattle.picking.specs.Order.{chosenBy, pickOf};
 ghost use Rattle.picking.specs.InPlace.{picked, pickIn};
+use messages::MAX_CHANNELS;
 use messages::MAX_MESSAGES;
 use messages::MAX_PAIRS;
 use messages::Record;
@@ -28,43 +29,21 @@ pub struct PickedIn {
 }
 
 // The first message that is ready from `look` on, going round; `look` where none is.
-fn choice<'a>(
-    nodes: usize,
-    messages: usize,
-    labels: &'a [u8],
-    free: &'a [u8],
-    falling: &'a [u8],
-    targets: &[u8],
-    heads: &[u8],
-    classes: &[u8],
-    delivered: &[u8],
-    holders: &[u16],
-    look: usize,
-) -> usize
+fn choice(messages: usize, wants: &[u16], delivered: &[u8], holders: &[u16], look: usize) -> usize
     requires { ⌜ look ≤ maxMessages ⌝ }
-    ensures { λ r. ⌜ r ≡ chosenBy (min messages maxMessages) (readyAt nodes (now (labels .entry)) (now (free .entry)) (now (falling .entry)) (now (targets .entry)) (now (heads .entry)) (now (classes .entry)) (now (delivered .entry)) (now (holders .entry))) look ⌝ }
+    ensures { λ r. ⌜ r ≡ chosenBy (min messages maxMessages) (readyAt (now (wants .entry)) (now (delivered .entry)) (now (holders .entry))) look ⌝ }
 {
     let n = machine::few(messages);
     for k in 0..n {
         let m = (look + k) % n;
-        if machine::is_ready(
-            nodes,
-            labels,
-            free,
-            falling,
-            holders,
-            slices::byte(heads, m),
-            slices::byte(targets, m),
-            slices::byte(classes, m),
-            slices::byte(delivered, m),
-        ) {
+        if machine::is_ready(wants, delivered, holders, m) {
             return m;
         }
     }
     look
 }
 
-// The next seed, where it says to look, and the move, in place, of the message that is found there. One that arrives gives back only channels below `span`.
+// The next seed, where it says to look, and the move, in place, of the message that is found there. One that is delivered gives back only channels below `span`.
 pub fn pick_in<'a>(
     seed: u32,
     nodes: usize,
@@ -77,26 +56,15 @@ pub fn pick_in<'a>(
     targets: &'a [u8; MAX_MESSAGES],
     heads: &mut [u8; MAX_MESSAGES],
     classes: &mut [u8; MAX_MESSAGES],
+    wants: &mut [u16; MAX_MESSAGES],
     delivered: &mut [u8; MAX_MESSAGES],
-    holders: &mut [u16; MAX_PAIRS],
+    holders: &mut [u16; MAX_CHANNELS],
 ) -> PickedIn
-    ensures { λ r. ⌜ picked (r .seed) (r .look) (r .message) (packed nodes messages (r .moves) (now (labels .entry)) (now (free .entry)) (now (falling .entry)) (now (targets .entry)) (now (heads .exit)) (now (classes .exit)) (now (delivered .exit)) (now (holders .exit))) ≡ pickIn span seed (packed nodes messages moves (now (labels .entry)) (now (free .entry)) (now (falling .entry)) (now (targets .entry)) (now (heads .entry)) (now (classes .entry)) (now (delivered .entry)) (now (holders .entry))) ⌝ }
+    ensures { λ r. ⌜ picked (r .seed) (r .look) (r .message) (packed nodes messages (r .moves) (now (labels .entry)) (now (free .entry)) (now (falling .entry)) (now (targets .entry)) (now (heads .exit)) (now (classes .exit)) (now (wants .exit)) (now (delivered .exit)) (now (holders .exit))) ≡ pickIn span seed (packed nodes messages moves (now (labels .entry)) (now (free .entry)) (now (falling .entry)) (now (targets .entry)) (now (heads .entry)) (now (classes .entry)) (now (wants .entry)) (now (delivered .entry)) (now (holders .entry))) ⌝ }
 {
     let next = seeds::next_seed(seed);
     let from = seeds::look(next, machine::few(messages));
-    let chosen = choice(
-        nodes,
-        messages,
-        labels,
-        free,
-        falling,
-        targets,
-        heads,
-        classes,
-        delivered,
-        holders,
-        from,
-    );
+    let chosen = choice(messages, wants, delivered, holders, from);
     let done = machine::step_in(
         nodes,
         messages,
@@ -108,6 +76,7 @@ pub fn pick_in<'a>(
         targets,
         heads,
         classes,
+        wants,
         delivered,
         holders,
         chosen,
@@ -126,6 +95,7 @@ pub fn pick(seed: u32, record: Record) -> Picked
 {
     let mut heads = record.heads;
     let mut classes = record.classes;
+    let mut wants = record.wants;
     let mut delivered = record.delivered;
     let mut holders = record.holders;
     let picked = pick_in(
@@ -133,13 +103,14 @@ pub fn pick(seed: u32, record: Record) -> Picked
         record.nodes,
         record.messages,
         record.moves,
-        MAX_PAIRS,
+        MAX_CHANNELS,
         &record.labels,
         &record.free,
         &record.falling,
         &record.targets,
         &mut heads,
         &mut classes,
+        &mut wants,
         &mut delivered,
         &mut holders,
     );
@@ -147,6 +118,7 @@ pub fn pick(seed: u32, record: Record) -> Picked
     after.moves = picked.moves;
     after.heads = heads;
     after.classes = classes;
+    after.wants = wants;
     after.delivered = delivered;
     after.holders = holders;
     Picked {

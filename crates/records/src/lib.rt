@@ -3,10 +3,12 @@ ghost use mathlib.Core.Path.{_≡_};
 ghost use Prim.Native.Nat.{_+_, _*_, _≤_};
 ghost use lib.ListN.{getD};
 ghost use Rattle.finite.specs.Lists.{tabulate};
-ghost use Rattle.messages.specs.Sizes.{maxMessages, maxPairs};
+ghost use Rattle.messages.specs.Sizes.{maxMessages, maxChannels};
+ghost use Rattle.messages.specs.Channels.{injection};
 ghost use Rattle.messages.specs.Step.{stepOf};
-ghost use Rattle.messages.specs.Fresh.{zeros, begunOf, blankRecord};
+ghost use Rattle.messages.specs.Fresh.{sourceIn, zeros, begunOf, blankRecord};
 ghost use Rattle.messages.specs.Ready.{allDelivered};
+use messages::MAX_CHANNELS;
 use messages::MAX_MESSAGES;
 use messages::MAX_PAIRS;
 use messages::Record;
@@ -19,19 +21,21 @@ pub fn step(record: Record, message: usize) -> Stepped
 {
     let mut heads = record.heads;
     let mut classes = record.classes;
+    let mut wants = record.wants;
     let mut delivered = record.delivered;
     let mut holders = record.holders;
     let done = machine::step_in(
         record.nodes,
         record.messages,
         record.moves,
-        MAX_PAIRS,
+        MAX_CHANNELS,
         &record.labels,
         &record.free,
         &record.falling,
         &record.targets,
         &mut heads,
         &mut classes,
+        &mut wants,
         &mut delivered,
         &mut holders,
         message,
@@ -41,6 +45,7 @@ pub fn step(record: Record, message: usize) -> Stepped
     after.moves = done.moves;
     after.heads = heads;
     after.classes = classes;
+    after.wants = wants;
     after.delivered = delivered;
     after.holders = holders;
     Stepped {
@@ -74,10 +79,21 @@ fn no_bytes() -> [u8; MAX_MESSAGES]
     [0u8; MAX_MESSAGES]
 }
 
-fn no_holders() -> [u16; MAX_PAIRS]
-    ensures { λ r. ⌜ r ≡ zeros maxPairs ⌝ }
+// The injection channel of each message's source.
+fn injections(list: &[u8]) -> [u16; MAX_MESSAGES]
+    ensures { λ r. ⌜ r ≡ tabulate maxMessages (λ m. injection (sourceIn (now (list .entry)) m)) ⌝ }
 {
-    [0u16; MAX_PAIRS]
+    let mut wants = [0u16; MAX_MESSAGES];
+    for m in 0..MAX_MESSAGES {
+        wants[m] = machine::injection(slices::byte(list, 2 * m));
+    }
+    wants
+}
+
+fn no_holders() -> [u16; MAX_CHANNELS]
+    ensures { λ r. ⌜ r ≡ zeros maxChannels ⌝ }
+{
+    [0u16; MAX_CHANNELS]
 }
 
 // The record that a fresh start fills.
@@ -93,6 +109,7 @@ pub fn begun(
     let targets = ends(list, 1);
     let heads = ends(list, 0);
     let classes = no_bytes();
+    let wants = injections(list);
     let delivered = no_bytes();
     let holders = no_holders();
     Record {
@@ -105,6 +122,7 @@ pub fn begun(
         targets,
         heads,
         classes,
+        wants,
         delivered,
         holders,
     }

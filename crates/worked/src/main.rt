@@ -4,7 +4,7 @@ ghost use mathlib.Core.Path.{_≡_};
 ghost use Rattle.by_hand.specs.Networks.{worked};
 ghost use Rattle.worked.specs.Bytes.{flat};
 
-const WORKED: [u8; 531] = [
+const WORKED: [u8; 524] = [
     2,
     2,
     0,
@@ -86,7 +86,11 @@ const WORKED: [u8; 531] = [
     32,
     49,
     10,
+    6,
+    2,
     0,
+    1,
+    2,
     0,
     0,
     3,
@@ -128,8 +132,6 @@ const WORKED: [u8; 531] = [
     0,
     0,
     0,
-    0,
-    0,
     3,
     4,
     0,
@@ -162,8 +164,6 @@ const WORKED: [u8; 531] = [
     1,
     1,
     2,
-    0,
-    0,
     0,
     0,
     0,
@@ -257,6 +257,7 @@ const WORKED: [u8; 531] = [
     32,
     51,
     10,
+    9,
     8,
     0,
     2,
@@ -266,8 +267,6 @@ const WORKED: [u8; 531] = [
     0,
     3,
     1,
-    12,
-    2,
     4,
     6,
     0,
@@ -328,8 +327,6 @@ const WORKED: [u8; 531] = [
     0,
     0,
     0,
-    0,
-    0,
     4,
     12,
     0,
@@ -385,8 +382,6 @@ const WORKED: [u8; 531] = [
     1,
     2,
     3,
-    0,
-    0,
     0,
     0,
     0,
@@ -534,12 +529,10 @@ const WORKED: [u8; 531] = [
     0,
     0,
     0,
-    0,
-    0,
 ];
 
 // The whole table.
-fn table() -> [u8; 531]
+fn table() -> [u8; 524]
     ensures { λ r. ⌜ r ≡ flat worked ⌝ }
 {
     WORKED

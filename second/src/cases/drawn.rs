@@ -448,7 +448,7 @@ fn moves(random: &mut Random, set: Set) -> (&'static str, Vec<u8>) {
     let mut messages = some_messages(random, nodes);
     for end in messages.iter_mut() {
         if random.one_in(25) {
-            *end = random.pick(&[nodes as u8, nodes as u8 + 1, 64, 254, 255]);
+            *end = random.pick(&[nodes as u8, nodes as u8 + 1, 63, 64, 254, 255]);
         }
     }
     match random.below(12) {
@@ -568,7 +568,7 @@ fn round(random: &mut Random, cabling: &Cabling, mut messages: Vec<u8>) -> Round
 
 /// Messages that are to move, now and then one that is not there.
 fn some_named(random: &mut Random, count: usize) -> Vec<usize> {
-    let most = 8 * count + 10;
+    let most = 16 * count + 10;
     (0..random.between(0, most))
         .map(|_| match random.below(60) {
             0 => below_or_not(random, count),

@@ -24,6 +24,7 @@ pub fn cases() -> Vec<Case> {
         other_arrays(),
         other_lists(),
         other_classes(),
+        without_channels(),
         going_round(),
     ];
     let calls = hops.into_iter().chain(moves).chain([not_calls()]);
@@ -224,7 +225,7 @@ fn near_and_far() -> Vec<u8> {
 fn other_counts() -> Vec<Vec<u8>> {
     let board = Board::of(&ring(4));
     let counts = [4, 0, 1, 2, 3, 5, 63, 64, 65, 256, 260, 65_535];
-    let input = |nodes| moves_call(nodes, &board, &near_and_far(), &[], &passes(19, 4));
+    let input = |nodes| moves_call(nodes, &board, &near_and_far(), &[], &passes(19, 9));
     counts.map(input).to_vec()
 }
 
@@ -237,7 +238,7 @@ fn other_arrays() -> Vec<Vec<u8>> {
         change(&mut board);
         let last = cabling.nodes - 1;
         let messages = list(&[(last, 0), (0, last), (last, last - 1), (1, last)]);
-        let named = passes(4, last + 3);
+        let named = passes(4, last + 6);
         inputs.push(moves_call(cabling.nodes, &board, &messages, &[], &named));
     };
     for length in [0, 1, 3, 5, 64, 65, 320] {
@@ -260,7 +261,8 @@ fn other_lists() -> Vec<Vec<u8>> {
     let lengths = [0, 1, 2, 3, 510, 511, 512, 513, 514, 600];
     let input = |length| {
         let messages: Vec<u8> = (0..length).map(|i| (i % 4) as u8).collect();
-        let named = [0, 1, 254, 255, 256, 257, 299, 65_535, 0, 255];
+        let mut named = vec![0, 1, 254, 255, 256, 257, 299, 65_535];
+        named.extend([0, 0, 0, 254, 255]);
         moves_call(4, &board, &messages, &[], &named)
     };
     lengths.map(input).to_vec()
@@ -284,17 +286,43 @@ fn other_classes() -> Vec<Vec<u8>> {
     let messages = near_and_far();
     for form in forms {
         let classes: Vec<u8> = form.iter().copied().cycle().take(14).collect();
-        inputs.push(moves_call(4, &board, &messages, &classes, &passes(14, 4)));
+        inputs.push(moves_call(4, &board, &messages, &classes, &passes(14, 9)));
     }
-    let messages = list(&[(0, 2), (3, 3), (2, 0), (1, 3)]).repeat(64);
-    let named = [0, 1, 2, 3, 16, 17, 18, 43, 253, 254, 255, 256, 0, 2, 255];
     for length in [1, 2, 3, 18, 255, 256, 257, 300] {
         let mut classes = vec![1; length];
-        inputs.push(moves_call(4, &board, &messages, &classes, &named));
+        inputs.push(to_the_next_node(&classes));
         classes.fill(0);
         classes[length - 1] = 2;
-        inputs.push(moves_call(4, &board, &messages, &classes, &named));
+        inputs.push(to_the_next_node(&classes));
     }
+    inputs
+}
+
+/// 256 messages on a ring, each to the next node, whose label is higher as a
+/// rule: a message that begins falling does not get there. Those that are to
+/// move are from one node each, so that each of them comes to its hop.
+fn to_the_next_node(classes: &[u8]) -> Vec<u8> {
+    let nodes = 24;
+    let next = |i: usize| (i % nodes, (i + 1) % nodes);
+    let messages = list(&(0..256).map(next).collect::<Vec<_>>());
+    let once = [0, 1, 2, 3, 16, 17, 18, 43, 253, 254, 255, 256];
+    let board = Board::of(&ring(nodes));
+    moves_call(nodes, &board, &messages, classes, &once.repeat(2))
+}
+
+/// Messages from and to nodes around 64, the first of a node to itself, and two
+/// of node 5 to itself, which is not there; all of them free, or of no class.
+fn without_channels() -> Vec<Vec<u8>> {
+    let board = Board::of(&ring(4));
+    let mut messages = list(&[(63, 63), (64, 64), (65, 65), (255, 255), (5, 5), (5, 5)]);
+    messages.extend(list(&[(63, 0), (64, 0), (64, 63), (63, 64), (255, 64)]));
+    messages.extend(list(&[(0, 63), (1, 64), (2, 255), (3, 3)]));
+    let input = |nodes, class: u8| {
+        let classes = [class; 15];
+        moves_call(nodes, &board, &messages, &classes, &passes(15, 8))
+    };
+    let mut inputs = [4, 0, 63, 64, 65].map(|nodes| input(nodes, 0)).to_vec();
+    inputs.push(input(4, 255));
     inputs
 }
 
@@ -311,13 +339,15 @@ fn going_round() -> Vec<Vec<u8>> {
         for falling in [&round, &none, &away, &bad] {
             let board = Board::new(&labels, &round, falling);
             for classes in [[0; 5], [1, 0, 2, 255, 1]] {
-                let named = passes(5, 6);
+                let named = passes(5, 10);
                 inputs.push(moves_call(4, &board, &messages, &classes, &named));
             }
         }
     }
     let stay = Board::new(&[1; 4], &to_node_3([0, 1, 2, 3]), &none);
-    inputs.push(moves_call(4, &stay, &messages, &[], &passes(5, 3)));
+    inputs.push(moves_call(4, &stay, &messages, &[], &passes(5, 5)));
+    let alone = Board::new(&[1; 4], &round, &none);
+    inputs.push(moves_call(4, &alone, &list(&[(0, 3)]), &[], &[0; 6]));
     inputs
 }
 

@@ -9,7 +9,7 @@ use super::Case;
 /// Each way to use a record, each start on it, and that start again.
 pub fn cases() -> Vec<Case> {
     let mut cases = Vec::new();
-    let again = Round::new(&ring(5).full_image(), &spread(5, 7), &passes(8, 2));
+    let again = Round::new(&ring(5).full_image(), &spread(5, 7), &passes(8, 5));
     for first in first_rounds() {
         for second in second_rounds() {
             let three = [first.clone(), second.clone(), again.clone()];
@@ -43,7 +43,7 @@ fn first_rounds() -> Vec<Round> {
         Round::new(&image, &four, &[]),
         Round::new(&image, &four, &passes(4, 1)),
         Round::new(&image, &list(&[(0, 2), (0, 2), (0, 1)]), &[0, 1, 2, 0, 1]),
-        Round::new(&image, &four, &[0, 0, 0, 0, 1, 2]),
+        Round::new(&image, &four, &[0, 0, 0, 0, 0, 1, 2]),
         Round::new(&image, &four, &passes(4, 20)),
         Round::new(&image, &spread(5, 256), &passes(256, 2)),
     ]
@@ -56,7 +56,7 @@ fn second_rounds() -> Vec<Round> {
     let mut eight = ring(5).full_image();
     *eight.last_mut().expect("not empty") = 9;
     let two = spread(2, 3);
-    let tries = passes(6, 5);
+    let tries = passes(6, 7);
     let mut rounds = vec![
         Round::new(&image, &spread(5, 4), &[]),
         Round::new(&image, &spread(5, 4), &tries),

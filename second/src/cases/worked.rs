@@ -1,8 +1,10 @@
-//! The networks worked by hand, and the refusals listed beside them.
+//! The networks worked by hand, the refusals listed beside them, and messages
+//! that go one at a time into and out of a node.
 
 use super::cabling::{complete, hall, path, ring, star, Cabling};
 use super::limits::too_many_pairs;
 use super::pack::*;
+use super::restarts::passes;
 use super::Case;
 
 /// The worked networks that are accepted.
@@ -21,6 +23,17 @@ pub fn networks() -> Vec<Cabling> {
 /// The messages worked on the ring.
 pub fn ring_messages() -> Vec<u8> {
     list(&[(0, 2), (1, 3), (2, 0), (3, 1)])
+}
+
+/// The lists of messages worked on the link and on the ring.
+pub fn message_lists(cabling: &Cabling) -> Vec<Vec<u8>> {
+    if *cabling == path(2) {
+        vec![list(&[(0, 1)]), list(&[(0, 0)])]
+    } else if *cabling == ring(4) {
+        vec![ring_messages()]
+    } else {
+        vec![]
+    }
 }
 
 /// The hops worked on the ring and on the hub: node, class, destination.
@@ -48,6 +61,10 @@ pub fn cases() -> Vec<Case> {
         cases.extend(rows(&cabling));
     }
     cases.extend(ring_drains());
+    cases.extend(link_drains());
+    cases.extend(on_the_link());
+    cases.extend(on_the_path());
+    cases.extend(many_at_a_node());
     cases.extend(listed_refusals());
     cases
 }
@@ -90,15 +107,99 @@ fn ring_drains() -> Vec<Case> {
     let image = ring(4).full_image();
     let mut cases = Vec::new();
     for seed in [0, 1, 2, 3, 65_535, 65_536, 0x7FFF_FFFF, u32::MAX] {
-        let input = drain_input(&image, seed, &ring_messages());
-        cases.push(Case::new("worked", "calls", trace_call(&input)));
-        cases.push(Case::new("worked", "drain", input));
+        cases.extend(drained(drain_input(&image, seed, &ring_messages())));
     }
     let none = drain_input(&image, 0, &[]);
     cases.push(Case::new("worked", "drain", none));
-    let all: Vec<usize> = (0..4).cycle().take(28).collect();
+    let all: Vec<usize> = (0..4).cycle().take(36).collect();
     let steps = steps_call(&image, &ring_messages(), &all);
     cases.push(Case::new("worked", "calls", steps));
+    cases
+}
+
+/// The link's lists of messages.
+fn link_drains() -> Vec<Case> {
+    let image = path(2).links_image();
+    let lists = message_lists(&path(2));
+    let inputs = lists.iter().map(|list| drain_input(&image, 0, list));
+    inputs.flat_map(drained).collect()
+}
+
+/// A drain input, traced and drained.
+fn drained(input: Vec<u8>) -> [Case; 2] {
+    [
+        Case::new("worked", "calls", trace_call(&input)),
+        Case::new("worked", "drain", input),
+    ]
+}
+
+/// Two messages over the link, one behind the other and against each other.
+fn on_the_link() -> Vec<Case> {
+    let link = path(2);
+    let behind: [&[usize]; 2] = [
+        &[0, 1, 0, 0, 0, 1],
+        &[0, 1, 0, 1, 0, 1, 0, 1, 1, 1, 0, 1, 1],
+    ];
+    let against: [&[usize]; 5] = [
+        &[0, 1, 0, 1, 0, 1, 0, 1, 0, 1],
+        &[1, 0, 1, 0, 1, 0, 1, 0, 1, 0],
+        &[0, 0, 1, 1, 0, 0, 1, 1],
+        &[0, 0, 0, 1, 1, 1],
+        &[0, 0, 0, 1, 1, 1, 1, 0],
+    ];
+    [
+        moved(&link, &[(0, 1), (0, 1)], &behind),
+        moved(&link, &[(0, 1), (1, 0)], &against),
+    ]
+    .concat()
+}
+
+/// Messages that meet in the middle of a path, that begin there, that pass by
+/// one from there to itself, and many of all these.
+fn on_the_path() -> Vec<Case> {
+    let three = path(3);
+    let meet: [&[usize]; 3] = [
+        &[0, 1, 0, 1, 0, 1],
+        &[0, 1, 0, 1, 0, 1, 0, 1, 1],
+        &[1, 1, 1, 0, 0, 0, 1, 0, 0],
+    ];
+    let pass: [&[usize]; 2] = [&[0, 0, 1, 1, 0, 0], &[0, 0, 1, 1, 0, 0, 1, 0, 1]];
+    let many = [(1, 1), (1, 1), (1, 0), (0, 1), (2, 1), (1, 2), (1, 1)];
+    let backwards: Vec<usize> = passes(7, 24).into_iter().rev().collect();
+    [
+        moved(&three, &[(0, 1), (2, 1)], &meet),
+        moved(&three, &[(1, 0), (1, 2)], &[&passes(2, 8)]),
+        moved(&three, &[(0, 2), (1, 1)], &pass),
+        moved(&three, &many, &[&passes(7, 7), &passes(7, 24), &backwards]),
+    ]
+    .concat()
+}
+
+/// A start with these messages, and each of these orders of moves after it.
+fn moved(cabling: &Cabling, ends: &[(usize, usize)], orders: &[&[usize]]) -> Vec<Case> {
+    let (image, messages) = (cabling.links_image(), list(ends));
+    let steps = |named: &&[usize]| steps_call(&image, &messages, named);
+    let case = |named| Case::new("worked", "calls", steps(named));
+    orders.iter().map(case).collect()
+}
+
+/// 256 messages to one node and from one node, drained from a seed, and moved
+/// four by four, where each of the four has at most 5 moves.
+fn many_at_a_node() -> Vec<Case> {
+    let four = |first: usize| passes(4, 20).into_iter().map(move |m| first + m);
+    let named: Vec<usize> = (0..256).step_by(4).flat_map(four).collect();
+    let mut cases = Vec::new();
+    for (seed, cabling) in [path(3), star(6)].iter().enumerate() {
+        let image = cabling.full_image();
+        let far = |i: usize| i % cabling.nodes;
+        let to_one: Vec<_> = (0..256).map(|i| (far(i), 1)).collect();
+        let from_one: Vec<_> = (0..256).map(|i| (1, far(i))).collect();
+        for ends in [to_one, from_one] {
+            let input = drain_input(&image, seed as u32, &list(&ends));
+            cases.extend(drained(input));
+            cases.extend(moved(cabling, &ends, &[&named]));
+        }
+    }
     cases
 }
 

@@ -7,6 +7,7 @@ use denote.Ref.{now}
 use Rattle.finite.proofs.Truth.{non-true, non-false, not-non}
 use Rattle.refusal.specs.declared.Verdict.the-variants.{Fine}
 use Rattle.nodes.specs.Limits.{maxNodes}
+use Rattle.messages.specs.Sizes.{nodeChannels}
 use Rattle.messages.specs.Step.{isDelivered}
 use Rattle.messages.specs.Ready.{allDelivered}
 use Rattle.machine.specs.InPlace.{packed}
@@ -19,12 +20,12 @@ use Rattle.draining.proofs.drain.Statement.{statement}
 use Rattle.draining.proofs.drain.Tie as tie
 
 abbrev Inv-loop : tie.InvT-loop
-Inv-loop image list seed nodes messages labels free falling targets heads₀ classes₀ delivered₀ holders₀ moves₀ next₀ span heads classes delivered holders moves next =
-    Running image list seed next (packed nodes messages moves labels free falling targets heads classes delivered holders)
-    × (span ≡ maxNodes * min nodes maxNodes)
+Inv-loop image list seed nodes messages labels free falling targets heads₀ classes₀ wants₀ delivered₀ holders₀ moves₀ next₀ span heads classes wants delivered holders moves next =
+    Running image list seed next (packed nodes messages moves labels free falling targets heads classes wants delivered holders)
+    × (span ≡ nodeChannels * min nodes maxNodes)
 
 abbrev μ-loop : tie.MeasureT-loop
-μ-loop image list seed nodes messages labels free falling targets heads₀ classes₀ delivered₀ holders₀ moves₀ next₀ span heads classes delivered holders moves next = sumOf image list - moves
+μ-loop image list seed nodes messages labels free falling targets heads₀ classes₀ wants₀ delivered₀ holders₀ moves₀ next₀ span heads classes wants delivered holders moves next = sumOf image list - moves
 
 -- where the start is known to be fine, from the loop back to there, and from a pick back to the loop's test
 fine-at : (c : tie.After-enum-told Inv-loop μ-loop) → let a = c .before .before .before .before .before .before .args in startFault (now (a .image)) (now (a .list)) ≡ Fine
@@ -34,10 +35,10 @@ fine-at c =
     started-fine (a .«record») (now (a .image)) (now (a .list)) (a .seed) (s .start .ensures) (c .enum-told .given .1)
 
 abbrev told-of : tie.At-loop Inv-loop μ-loop → tie.After-enum-told Inv-loop μ-loop
-told-of l = l .before .before .before .before .before .before .before .before .before .before
+told-of l = l .before .before .before .before .before .before .before .before .before .before .before
 
 abbrev test-of : tie.After-holders2 Inv-loop μ-loop → tie.Then1 Inv-loop μ-loop
-test-of c = c .before .before .before .before .before .before .before .before
+test-of c = c .before .before .before .before .before .before .before .before .before
 
 undelivered : (c : tie.Then1 Inv-loop μ-loop) → c .before .all-delivered-in .result ≡ false
 undelivered c = non-true _ (sym (not-non _) ∙ c .if1 .taken)
@@ -47,7 +48,7 @@ returns c = started-refused _ _ _ _ (c .before .before .before .before .start .e
 
 loop-holds : tie.Need-loop-holds Inv-loop μ-loop
 loop-holds c =
-    let f = c .before .before .before .before .before .before .before .before .before in
+    let f = c .before .before .before .before .before .before .before .before .before .before in
     let s = f .before .before .before in
     let a = s .before .before .before .args in
     let r : Running (now (a .image)) (now (a .list)) (a .seed) (a .seed) (s .start .result .«record») =

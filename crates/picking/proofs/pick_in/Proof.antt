@@ -9,13 +9,13 @@ use Rattle.picking.proofs.pick_in.Tie as tie
 
 choice-requires : tie.Need-choice-requires
 choice-requires c κs =
-    let k = c .before .before .before .before .before .before .before .before .before .before .before .before in
+    let k = c .before .before .before .before .before .before in
     let l : k .look .result ≤ k .before .few .result = rw (k .look .ensures) (look-le _ _) in omega arith
 
 returns : tie.Need-returns
 returns c =
-    let m = c .before .before .before .before .before .before .before .before .before in
-    let l = m .before .before .before .before .before .before .before .before .before .before .before .before .before in
+    let m = c .before .before .before .before .before .before .before .before .before .before in
+    let l = m .before .before .before .before .before .before .before in
     let n = l .before in
     let s = n .before in
     picked-in _ _ _ (s .next-seed .ensures) (n .few .ensures) (l .look .ensures) (m .choice .ensures) (c .step-in .ensures)

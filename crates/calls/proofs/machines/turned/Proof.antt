@@ -8,10 +8,10 @@ use Rattle.calls.proofs.machines.turned.Statement.{statement}
 use Rattle.calls.proofs.machines.turned.Tie as tie
 
 abbrev Inv-loop : tie.InvT-loop
-Inv-loop seed last₀ next₀ k₀ t8 last next k = k ≤ maxMessages * (maxNodes + 1)
+Inv-loop seed last₀ next₀ k₀ t8 last next k = k ≤ maxMessages * (maxNodes + 2)
 
 abbrev μ-loop : tie.MeasureT-loop
-μ-loop seed last₀ next₀ k₀ t8 last next k = maxMessages * (maxNodes + 1) - k
+μ-loop seed last₀ next₀ k₀ t8 last next k = maxMessages * (maxNodes + 2) - k
 
 pub turned-spec : {M : Type 1} → statement M
 turned-spec =
