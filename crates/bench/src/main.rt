@@ -1,5 +1,7 @@
 // Bench: repeats one piece of work inside one process, and prints the last answer's number. Input: the work (0 builds, 1 drains), the number of repeats
 // (32 bits, low byte first); for builds a links image; for drains an image's length (16 bits, low byte first), the image, and pairs.
+#![tactic(auto)]
+
 use results::Written;
 
 // How many bytes were written; 0 where none were.

@@ -1,4 +1,5 @@
 // Build: reads a links image from standard input, and writes its full image, or the line of its refusal.
+#![tactic(auto)]
 
 // An input that fills the buffer is over 65,535 bytes, and is refused as such.
 fn main() {

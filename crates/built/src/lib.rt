@@ -1,4 +1,6 @@
 // What Build writes: of a links image its full image, or the line of its refusal.
+#![tactic(auto)]
+
 ghost use Rattle.results.specs.Written.{Writes, room_for};
 ghost use Rattle.built.specs.Builds.{longest_build, output_of};
 

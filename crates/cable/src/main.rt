@@ -1,4 +1,5 @@
 // Cable: reads a sheet from standard input, and writes its links image, or the line of its refusal.
+#![tactic(auto)]
 
 // An input that fills the buffer is longer than any sheet, and is refused.
 fn main() {

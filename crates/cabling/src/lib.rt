@@ -1,4 +1,6 @@
 // The checks of a cabling, in the order of RULES 9.2: the first fault is the verdict.
+#![tactic(auto)]
+
 ghost use Rattle.std.specs.Prelude.{◌≡◌, ◌≤◌};
 ghost use Rattle.finite.specs.Search.{least};
 ghost use Rattle.nodes.specs.Limits.{max_nodes};

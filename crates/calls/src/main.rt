@@ -1,5 +1,7 @@
 // Calls: reads a call's number and its arguments from standard input, makes the call and prints what it answers. It is an instrument: through it the
 // library's calls are compared with the second program, whose README.md says what is read and printed.
+#![tactic(auto)]
+
 ghost use Rattle.std.specs.Prelude.{◌≡◌, length};
 
 mod answers; // answers.rt: what is printed

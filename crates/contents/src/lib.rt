@@ -1,5 +1,7 @@
 // The contents of an image, walked by a reader. The work is in `step_at`, which keeps no reference; `new` and `step` are thin, and `stepped` serves callers
 // that keep the image and the number themselves, as `in_order` does.
+#![tactic(auto)]
+
 ghost use Rattle.std.specs.Prelude.{◌≡◌, ◌≤◌};
 ghost use Rattle.format.specs.Contents.{in_order};
 ghost use Rattle.contents.specs.Walking.{standing, found_at, step_from};
@@ -9,14 +11,14 @@ use format::{Entry, MAX_IMAGE};
 use slices::byte_at;
 
 // RULES 6.3: "a reader that keeps the caller's image and the number of the next entry"
-#[derive(Drop)]
+#[derive(Clone, Copy)]
 pub struct Reader<'a> {
     pub image: &'a [u8],
     pub next: usize,
 }
 
 // What a step finds: the entry, and the number of the next one.
-#[derive(Drop)]
+#[derive(Clone, Copy)]
 pub struct Found {
     pub entry: Entry,
     pub next: usize,

@@ -1,5 +1,6 @@
 // Drain: reads an image's length, the image, a seed and pairs from standard input, moves the messages until every one is delivered, and prints how many
 // messages and successful moves there were, or the line of a refusal.
+#![tactic(auto)]
 
 // What stands behind the first 65,536 bytes is not read.
 fn main() {

@@ -1,5 +1,7 @@
 // What Drain prints: of an image's length, the image, a seed and pairs the line that says how many messages and successful moves there were once
 // every message is delivered, or the line of a refusal.
+#![tactic(auto)]
+
 ghost use Rattle.std.specs.Prelude.{◌≡◌, ◌+◌, ◌*◌, ◌<◌};
 ghost use Rattle.format.specs.Limits.{half_word};
 ghost use Rattle.format.specs.Contents.{number_at};

@@ -1,4 +1,6 @@
 // Draining: a start, and picks until every message is delivered.
+#![tactic(auto)]
+
 ghost use Rattle.std.specs.Prelude.{◌≡◌};
 ghost use Rattle.draining.specs.Drained.{drain_of};
 
@@ -6,7 +8,7 @@ use messages::{NODE_CHANNELS, Record};
 use refusal::Verdict;
 
 // What a drain answers: the verdict on its start, and the record: drained, or as it was where the start is refused.
-#[derive(Drop)]
+#[derive(Clone, Copy)]
 pub struct Drained {
     pub verdict: Verdict,
     pub record: Record,

@@ -1,4 +1,6 @@
 // The fabric: what a cabling becomes. Its labels by the rule and its two tables of next hops, made once and handed on by value.
+#![tactic(auto)]
+
 ghost use Rattle.std.specs.Prelude.{◌≡◌};
 ghost use Rattle.cabling.specs.Cabling.{cabled, Good};
 ghost use Rattle.fabric.specs.Fabric.{fabric_of, bare_fabric, made_of};
@@ -8,7 +10,7 @@ use refusal::Verdict;
 use rows::TABLE;
 
 // Labels and rows stand at the front of their arrays, zeros behind.
-#[derive(Drop)]
+#[derive(Clone, Copy)]
 pub struct Fabric {
     pub nodes: usize,
     pub labels: [u8; MAX_NODES],
@@ -17,7 +19,7 @@ pub struct Fabric {
 }
 
 // The verdict on a cabling, and its fabric: the bare one where there is a fault.
-#[derive(Drop)]
+#[derive(Clone, Copy)]
 pub struct Made {
     pub verdict: Verdict,
     pub fabric: Fabric,

@@ -8,7 +8,7 @@ use hops::HopAnswer;
 use results::Written;
 
 // An entry: its nodes, the places of its lists, and the place behind it.
-#[derive(Drop)]
+#[derive(Clone, Copy)]
 struct Entry {
     nodes: usize,
     pairs: usize,

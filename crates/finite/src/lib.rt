@@ -1,1 +1,2 @@
 // Theory alone: tests, finite sums, searches, and sets written as numbers. No function.
+#![tactic(auto)]

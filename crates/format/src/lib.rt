@@ -1,4 +1,6 @@
 // The layout of an image: contents entries, and bodies that follow them without a gap.
+#![tactic(auto)]
+
 ghost use Rattle.std.specs.Prelude.{◌≡◌, ◌≤◌, ◌<◌, take, drop};
 ghost use Rattle.format.specs.Limits.{half_word};
 ghost use Rattle.format.specs.Contents.{number_at, entry_of, body_start, nodes_in, zero_in, pairs_in};
@@ -18,7 +20,7 @@ pub const MAX_IMAGE: usize = 65535;
 pub const HALF_WORD: usize = 65536;
 
 // A contents entry as stored, or none.
-#[derive(Drop)]
+#[derive(Clone, Copy)]
 pub enum Entry {
     At {
         kind: u8,

@@ -1,1 +1,2 @@
 // Theory alone: networks over any number of nodes and any links. No function.
+#![tactic(auto)]

@@ -1,4 +1,6 @@
 // The calls that read lent tables of next hops: the row of a node in a class, and the hop of a message, with the class that comes after it.
+#![tactic(auto)]
+
 ghost use Rattle.std.specs.Prelude.{◌≡◌, ◌≤◌};
 ghost use Rattle.finite.specs.Truth.{below};
 ghost use Rattle.lawful.specs.Turn.{label_in};
@@ -47,7 +49,7 @@ pub fn row<'a>(free: &'a [u8], falling: &'a [u8], n: usize, node: usize, class: 
 }
 
 // What `hop` answers.
-#[derive(Drop)]
+#[derive(Clone, Copy)]
 pub enum HopAnswer {
     // The next node, and the class to use there.
     Next(u8, u8),

@@ -1,4 +1,6 @@
 // An image opened: the verdict on it, and its fabric. The checks are made in the order of RULES 9.2.
+#![tactic(auto)]
+
 ghost use Rattle.std.specs.Prelude.{◌≡◌, drop};
 ghost use Rattle.refusal.specs.declared.Verdict.{Verdict};
 ghost use Rattle.refusal.specs.Verdicts.{and_then};

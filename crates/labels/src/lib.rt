@@ -1,4 +1,6 @@
 // The labelling rule: labels 1, 2, .. in order, each to the least candidate of what remains.
+#![tactic(auto)]
+
 ghost use Rattle.std.specs.Prelude.{◌≡◌, true, ◌-◌, min, length};
 ghost use Rattle.finite.specs.Sum.{count};
 ghost use Rattle.finite.specs.Sets.{has};
@@ -35,7 +37,7 @@ pub fn room(t: &[u64], v: usize) -> bool
 }
 
 // The best candidate so far. Where there is none, both are higher than any node's.
-#[derive(Drop)]
+#[derive(Clone, Copy)]
 pub struct Best {
     pub degree: usize,
     pub node: usize,

@@ -1,4 +1,6 @@
 // Bytes laid one behind the other into a lent buffer.
+#![tactic(auto)]
+
 ghost use Rattle.std.specs.Prelude.{◌≡◌, [], ◌∷◌};
 ghost use Rattle.laid.specs.Laid.{page, behind};
 

@@ -1,4 +1,6 @@
 // The drain machine over a record that its caller lends: start and move, and beside each a function that owns the record, lends it and hands it back.
+#![tactic(auto)]
+
 ghost use Rattle.std.specs.Prelude.{◌≡◌};
 ghost use Rattle.messages.specs.Step.{with, step_of};
 ghost use Rattle.start.specs.Start.{beside, start_of};

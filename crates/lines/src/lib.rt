@@ -1,4 +1,6 @@
 // Lines that programs print: a word or a number, further numbers one space apart, a line feed; and how a program writes what it has laid.
+#![tactic(auto)]
+
 ghost use Rattle.std.specs.Prelude.{◌≡◌};
 ghost use Rattle.laid.specs.Laid.{page};
 ghost use Rattle.results.specs.Written.{Writes, room_for};

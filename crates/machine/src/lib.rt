@@ -1,5 +1,7 @@
 // The drain machine, in arrays that stay in their place: messages enter at their sources, follow their tables' routes, leave at their destinations, hold every
 // channel that they took, and give all back when they are delivered.
+#![tactic(auto)]
+
 ghost use Rattle.std.specs.Prelude.{◌≡◌, min, get_or};
 ghost use Rattle.finite.specs.Truth.{non, same};
 ghost use Rattle.finite.specs.Search.{all};
@@ -16,7 +18,7 @@ use messages::{ALL_TAKEN, Ahead, Answer, MAX_CHANNELS, MAX_MESSAGES, NO_CHANNEL}
 use refusal::Refusal;
 
 // A move's answer beside the count of moves after it.
-#[derive(Drop)]
+#[derive(Clone, Copy)]
 pub struct Answered {
     pub moves: usize,
     pub answer: Answer,

@@ -1,5 +1,7 @@
 // The messages of the drain machine: the record of them, and the answers to a move. No function: what a move is stands in specs/, demand 3 (RULES 2.3) in
 // proofs/.
+#![tactic(auto)]
+
 use nodes::MAX_NODES;
 use refusal::Refusal;
 
@@ -25,7 +27,7 @@ pub const NO_CHANNEL: usize = MAX_CHANNELS + 1;
 // What the machine knows: the network's labels and rows, and of each message its destination, the channel that it wants next, the node where its head is and
 // its class (0 free, 1 falling) once it has taken that, and whether it is delivered (1). A channel's holder is 0 where it is free, else the message's number
 // plus 1.
-#[derive(Drop)]
+#[derive(Clone, Copy)]
 pub struct Record {
     pub nodes: usize,
     pub messages: usize,
@@ -42,7 +44,7 @@ pub struct Record {
 }
 
 // The channel that a message wants next, and the node where its head is and its class once it has taken that.
-#[derive(Drop)]
+#[derive(Clone, Copy)]
 pub struct Ahead {
     pub want: u16,
     pub head: u8,
@@ -50,7 +52,7 @@ pub struct Ahead {
 }
 
 // The answer to one move.
-#[derive(Drop)]
+#[derive(Clone, Copy)]
 pub enum Answer {
     // It is delivered already.
     Already,
@@ -65,7 +67,7 @@ pub enum Answer {
 }
 
 // A move's answer beside the record after it.
-#[derive(Drop)]
+#[derive(Clone, Copy)]
 pub struct Stepped {
     pub record: Record,
     pub answer: Answer,

@@ -1,4 +1,6 @@
 // A network as a table of each node's neighbours, made from byte pairs: keep some nodes, strike one out, flood, test connectedness, test for a cut node.
+#![tactic(auto)]
+
 ghost use Rattle.std.specs.Prelude.{◌≡◌, ℕ, ◌<◌, ◌^◌, length, get_or};
 ghost use Rattle.finite.specs.Truth.{◌or◌};
 ghost use Rattle.finite.specs.Sum.{count};

@@ -1,4 +1,6 @@
 // Node sets. Every function answers at every input; a number that is no node is in no set.
+#![tactic(auto)]
+
 ghost use Rattle.std.specs.Prelude.{◌≡◌, min, eqb};
 ghost use Rattle.finite.specs.Truth.{◌&◌, ◌or◌, non, same, below};
 ghost use Rattle.finite.specs.Sum.{count};

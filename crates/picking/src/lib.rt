@@ -1,4 +1,6 @@
 // One pick of a drain: which message moves next, and its move.
+#![tactic(auto)]
+
 ghost use Rattle.std.specs.Prelude.{◌≡◌, ◌≤◌, min};
 ghost use Rattle.messages.specs.Sizes.{max_messages};
 ghost use Rattle.messages.specs.Ready.{ready_at};
@@ -10,7 +12,7 @@ use messages::{MAX_CHANNELS, MAX_MESSAGES, MAX_PAIRS, Record};
 use nodes::MAX_NODES;
 
 // One move of a drain: the seed, the message where it looked first, the one that moved, and the record after it.
-#[derive(Drop)]
+#[derive(Clone, Copy)]
 pub struct Picked {
     pub seed: u32,
     pub look: usize,
@@ -19,7 +21,7 @@ pub struct Picked {
 }
 
 // The same in arrays that stay in their place: the count of moves stands for the record.
-#[derive(Drop)]
+#[derive(Clone, Copy)]
 pub struct PickedIn {
     pub seed: u32,
     pub look: usize,

@@ -1,9 +1,11 @@
 // Lines of numbers, read from the front of a text: its numbers are read, printed as a line, and compared with it.
+#![tactic(auto)]
+
 ghost use Rattle.std.specs.Prelude.{◌≡◌, [], ◌∷◌};
 ghost use Rattle.read_lines.specs.Numbers.{front_size, one_in, two_in};
 
 // The line of numbers that a text begins with: how many bytes it has, 0 where the text begins with no such line, and its numbers.
-#[derive(Drop)]
+#[derive(Clone, Copy)]
 pub struct FirstLine {
     pub size: usize,
     pub first: usize,

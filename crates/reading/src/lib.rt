@@ -1,4 +1,6 @@
 // The call read: N, M and which image it is, and the pairs in a lent buffer.
+#![tactic(auto)]
+
 ghost use Rattle.reading.specs.Reads.{Reads};
 
 use format::FULL;
@@ -6,7 +8,7 @@ use refusal::{Refusal, Verdict};
 use results::Written;
 
 // What `read` answers: the numbers of nodes and links and which image it was, or the refusal.
-#[derive(Drop)]
+#[derive(Clone, Copy)]
 pub enum Outcome {
     Read {
         nodes: usize,

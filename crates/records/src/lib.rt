@@ -1,4 +1,6 @@
 // The drain record by value: blank, begun anew, moved by one step, asked whether every message is delivered.
+#![tactic(auto)]
+
 ghost use Rattle.std.specs.Prelude.{◌≡◌, ◌+◌, ◌*◌, ◌≤◌, get_or};
 ghost use Rattle.finite.specs.Lists.{tabulate};
 ghost use Rattle.messages.specs.Sizes.{max_messages, max_channels};

@@ -1,8 +1,10 @@
 // The refusals of every call: a case for each fault, with its number and place in RULES 9.1.
+#![tactic(auto)]
+
 ghost use Rattle.std.specs.Prelude.{◌≡◌};
 ghost use Rattle.refusal.specs.Number.{number_of, place_of};
 
-#[derive(Drop)]
+#[derive(Clone, Copy)]
 pub enum Refusal {
     // 1: the contents break the rules.
     Contents,
@@ -31,7 +33,7 @@ pub enum Refusal {
 }
 
 // What a check finds: nothing, or the first fault.
-#[derive(Drop)]
+#[derive(Clone, Copy)]
 pub enum Verdict {
     Fine,
     Fault(Refusal),

@@ -1,4 +1,6 @@
 // Results in lent buffers: written whole at the front, or not at all.
+#![tactic(auto)]
+
 ghost use Rattle.std.specs.Prelude.{◌≡◌};
 ghost use Rattle.results.specs.Written.{Writes};
 ghost use Rattle.refusal.specs.declared.Verdict.{Verdict};
@@ -6,7 +8,7 @@ ghost use Rattle.refusal.specs.declared.Verdict.{Verdict};
 use refusal::Refusal;
 
 // What a call that writes answers: how many bytes it wrote, or the refusal.
-#[derive(Drop)]
+#[derive(Clone, Copy)]
 pub enum Written {
     Bytes(usize),
     NotWritten(Refusal),

@@ -1,4 +1,6 @@
 // The route call: under read's checks of the image, the nodes from a source to a destination, each next one found by hop.
+#![tactic(auto)]
+
 ghost use Rattle.std.specs.Prelude.{◌+◌, ◌<◌, length};
 ghost use Rattle.laid.specs.Laid.{page};
 ghost use Rattle.laid.specs.Lays.{Lays};

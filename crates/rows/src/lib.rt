@@ -1,4 +1,6 @@
 // The two tables of next-hop rows, each column found by one search backwards from its destination.
+#![tactic(auto)]
+
 ghost use Rattle.std.specs.Prelude.{◌≡◌, ◌<◌, ◌≤◌, min, length, get_or};
 ghost use Rattle.finite.specs.Truth.{◌&◌, ◌or◌};
 ghost use Rattle.finite.specs.Search.{least};
@@ -18,7 +20,7 @@ pub const TABLE: usize = MAX_NODES * MAX_NODES;
 const ROUNDS: usize = MAX_NODES + MAX_NODES;
 
 // For each node the neighbours that a hop rises to, and those that it falls to.
-#[derive(Drop)]
+#[derive(Clone, Copy)]
 struct Ways {
     up: network::Table,
     down: network::Table,
@@ -37,14 +39,14 @@ fn ways_of(t: &[u64], labels: &[u8]) -> Ways
 }
 
 // One class of a search: the nodes that have joined, and the entry of each of them.
-#[derive(Drop)]
+#[derive(Clone, Copy)]
 struct Side {
     members: Set,
     entries: [u8; MAX_NODES],
 }
 
 // Both classes.
-#[derive(Drop)]
+#[derive(Clone, Copy)]
 struct Search {
     free: Side,
     falling: Side,
@@ -180,7 +182,7 @@ fn search_for(up: &[u64], down: &[u64], over: &[u64], under: &[u64], t: usize) -
 }
 
 // The entries of all nodes for one destination.
-#[derive(Drop)]
+#[derive(Clone, Copy)]
 struct Column {
     free: [u8; MAX_NODES],
     falling: [u8; MAX_NODES],
@@ -209,7 +211,7 @@ fn place(table: &mut [u8], column: &[u8], m: usize, d: usize)
 }
 
 // The rows of both classes, one after the other, 0 behind the last.
-#[derive(Drop)]
+#[derive(Clone, Copy)]
 pub struct Tables {
     pub free: [u8; TABLE],
     pub falling: [u8; TABLE],

@@ -1,4 +1,6 @@
 // The seed of Drain, which wraps at 32 bits, and where it says to look.
+#![tactic(auto)]
+
 ghost use Rattle.std.specs.Prelude.{◌≡◌, ◌*◌, ◌%◌, ◌^◌};
 ghost use Rattle.seeds.specs.Seed.{next_seed, look_at};
 

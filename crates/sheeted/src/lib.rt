@@ -1,4 +1,6 @@
 // What Cable and Sheet write: of a sheet its links image, and of a links image its sheet, or the line of the refusal.
+#![tactic(auto)]
+
 ghost use Rattle.results.specs.Written.{Writes, room_for};
 ghost use Rattle.image.specs.Longest.{longest_links};
 ghost use Rattle.sheets.specs.Sheet.{longest_sheet};

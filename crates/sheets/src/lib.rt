@@ -1,4 +1,6 @@
 // The calls cable and sheet: the links image of a sheet, and the sheet of a links image, in lent buffers.
+#![tactic(auto)]
+
 ghost use Rattle.std.specs.Prelude.{◌≡◌};
 ghost use Rattle.cabling.specs.Cabling.{cabled};
 ghost use Rattle.laid.specs.Laid.{page};

@@ -6,7 +6,7 @@ ghost use Rattle.sheets.specs.Held.{Holds};
 use refusal::{Refusal, Verdict};
 
 // What is found: 12 at the first bad line, where line 1 is the first; where there is none, how many bytes of pairs were laid.
-#[derive(Drop)]
+#[derive(Clone, Copy)]
 pub(crate) struct Found {
     pub(crate) verdict: Verdict,
     pub(crate) size: usize,

@@ -1,4 +1,5 @@
 // Show: reads an image, links only or full, from standard input, and prints its fabric's line and a line for each node, or the line of its refusal.
+#![tactic(auto)]
 
 // An input that fills the buffer is over 65,535 bytes, and is refused as such.
 fn main() {

@@ -1,4 +1,6 @@
 // What Show prints: of an image, links only or full, its fabric's line and a line for each node, or the line of its refusal.
+#![tactic(auto)]
+
 ghost use Rattle.std.specs.Prelude.{◌≡◌, ◌∷◌, ◌≤◌, length};
 ghost use Rattle.cabling.specs.Cabling.{cabled, Good};
 ghost use Rattle.fabric.specs.Fabric.{fabric_of};

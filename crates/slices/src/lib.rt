@@ -1,4 +1,6 @@
 // Lent slices of bytes, read and stored into at every place: past the end a byte reads as 0, and a store changes nothing.
+#![tactic(auto)]
+
 ghost use Rattle.std.specs.Prelude.{◌≡◌, take, drop, get_or, set};
 ghost use Rattle.finite.specs.Lists.{alike};
 

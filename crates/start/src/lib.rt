@@ -1,4 +1,6 @@
 // The start call of the drain machine: an image under read's rules, the list of messages under its own, and then a fresh record.
+#![tactic(auto)]
+
 ghost use Rattle.std.specs.Prelude.{◌≡◌, ◌<◌, ◌/◌, length};
 ghost use Rattle.finite.specs.Search.{least};
 ghost use Rattle.start.specs.Start.{strange, list_fault, fresh_in, start_of};
@@ -8,7 +10,7 @@ use messages::{MAX_LIST, Record};
 use refusal::{Refusal, Verdict};
 
 // What start answers: the verdict, and the record: fresh, or as it was where the call is refused.
-#[derive(Drop)]
+#[derive(Clone, Copy)]
 pub struct Started {
     pub verdict: Verdict,
     pub record: Record,

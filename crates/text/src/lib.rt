@@ -1,4 +1,6 @@
 // Numbers in decimal: printed, and read from the front of a text.
+#![tactic(auto)]
+
 ghost use Rattle.std.specs.Prelude.{◌≡◌};
 ghost use Rattle.laid.specs.Laid.{page, behind};
 ghost use Rattle.text.specs.Text.{decimal_of, number_in};

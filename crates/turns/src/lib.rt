@@ -1,4 +1,6 @@
 // Labels on a network: the neighbours that a hop rises or falls to, the total of turns, and how many of them are prohibited.
+#![tactic(auto)]
+
 ghost use Rattle.std.specs.Prelude.{◌≡◌, ◌-◌, ◌*◌, ◌/◌, ◌≤◌, get_or};
 ghost use Rattle.finite.specs.Truth.{◌&◌, same, below};
 ghost use Rattle.finite.specs.Sets.{has, set_of};

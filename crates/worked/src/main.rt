@@ -1,5 +1,7 @@
 // The networks worked by hand, as one constant table of bytes: the table of the crate `by_hand`, which proves each of its entries right. The program runs them
 // all, and those of RULES 11.2, and prints what it found.
+#![tactic(auto)]
+
 ghost use Rattle.std.specs.Prelude.{◌≡◌};
 ghost use Rattle.by_hand.specs.Networks.{worked};
 ghost use Rattle.worked.specs.Bytes.{flat};

@@ -1,4 +1,6 @@
 // The calls write and build: an image in a lent buffer, whole or not at all.
+#![tactic(auto)]
+
 ghost use Rattle.cabling.specs.Cabling.{cabled};
 ghost use Rattle.cabling.specs.Faults.{fault_of};
 ghost use Rattle.format.specs.Contents.{full_kinds};
