@@ -32,10 +32,10 @@ members_determined r s e = sym (set-with r) ∙ ap set_with e ∙ set-with s
 pub is-empty : {w : ℕ} {r : Bool} → r ≡ eqb (members w) 0 → r ≡ true → members w ≡ 0
 is-empty e t = eqb-true _ _ (sym e ∙ t)
 
-pub none_left : {w : ℕ} {r : Bool} → r ≡ eqb (members w) 0 → not r ≡ false → members w ≡ 0
+pub none_left : {w : ℕ} {r : Bool} → r ≡ eqb (members w) 0 → r ≡ true → members w ≡ 0
 none_left {r = true} e f = is-empty e refl
-none_left {r = false} e f = no_tf refl f
+none_left {r = false} e f = no_tf f refl
 
-pub some_left : {w : ℕ} {r : Bool} → r ≡ eqb (members w) 0 → not r ≡ true → members w ≡ 0 → ⊥
-some_left {r = true} e t = no_tf t refl
+pub some_left : {w : ℕ} {r : Bool} → r ≡ eqb (members w) 0 → r ≡ false → members w ≡ 0 → ⊥
+some_left {r = true} e t = no_tf refl t
 some_left {r = false} e t = eqb-false _ _ (sym e)

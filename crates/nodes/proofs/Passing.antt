@@ -21,7 +21,7 @@ pub record Pass (left v next : ℕ) : Type 0 where
   pub less : next < left
 
 -- from what `is_empty`, `lowest` and `rest` answer, in a loop that goes on while something is left
-pub pass : {left v next : ℕ} {r : Bool} → left < 2 ^ max_nodes → r ≡ eqb left 0 → not r ≡ true → v ≡ least max_nodes (has left)
+pub pass : {left v next : ℕ} {r : Bool} → left < 2 ^ max_nodes → r ≡ eqb left 0 → r ≡ false → v ≡ least max_nodes (has left)
     → next ≡ set_of max_nodes (without (has left) (least max_nodes (has left))) → Pass left v next
 pass {left} {v} {next} l test on lowest rest = record {
   here = here;

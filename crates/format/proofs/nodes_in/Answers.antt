@@ -1,0 +1,6 @@
+-- `format::nodes_in` meets its contract.
+use borrow.Author.Rules.{rules}
+use Rattle.format.proofs.nodes_in.Goals as goal
+
+pub returns : goal.returns
+returns c = rw (c.byte_at.ensures, c.body_start.ensures.starts)

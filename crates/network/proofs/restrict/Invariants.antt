@@ -1,0 +1,17 @@
+-- `network::restrict` meets its contract. The invariant: rows passed are restricted.
+use mathlib.Core.Path.{◌∙◌, ap}
+use Prim.Native.Nat.{ℕ, ◌-◌, ◌≤◌}
+use native.Mathlib.Omega.{arith}
+use Rattle.finite.specs.Sets.{has, set_of}
+use Rattle.graph.specs.Network.{among}
+use Rattle.nodes.specs.Limits.{max_nodes}
+use Rattle.nodes.specs.Members.{members}
+use Rattle.network.specs.Table.{edge_of, table_from}
+use Rattle.finite.proofs.Filling.{Filling, filling_none, filling_more, filling_all}
+use Rattle.network.proofs.restrict.Given as goal
+
+abbrev pub invariant-loop-u : goal.invariant-loop-u
+invariant-loop-u l = Filling (λ a. set_of max_nodes (among (has (members l.w)) (edge_of l.t) a)) l.initial.rest l.rest l.u × (l.u ≤ max_nodes)
+
+abbrev pub decreases-loop-u : goal.decreases-loop-u
+decreases-loop-u l = max_nodes - l.u
