@@ -1,0 +1,40 @@
+-- `cabling::link_fault` meets its contract. The invariant: the pairs passed are fine.
+use mathlib.Core.Path.{◌≡◌, sym, ◌∙◌}
+use Prim.Native.Nat.{ℕ, ◌-◌, ◌/◌, ◌≤◌, ◌<◌}
+use native.Mathlib.Omega.{arith}
+use borrow.Author.Rules.{rules}
+use borrow.Author.Count.{below_none, below_more}
+use lib.ListN.{length}
+use Rattle.cabling.specs.Cabling.{Cabling, cabled}
+use Rattle.cabling.specs.Verdicts.{PairFine}
+use Rattle.cabling.proofs.Cases.{fault-pair, fine-pair, link_bad, link-fine}
+use Rattle.cabling.proofs.Width.{node-table}
+use Rattle.cabling.proofs.link_fault.Goals as goal
+
+pub loop-p-init : goal.loop-p-init
+loop-p-init c = (below_none _, omega arith, omega arith)
+
+pub returns-in-Fault : goal.returns-in-Fault
+returns-in-Fault c =
+    let l = c.loop-p in
+    let e = sym c.pair_fault-found.ensures ∙ c.found.given.1 in
+    sym (link_bad (cabled _ _) l.p l.invariant.0 (omega arith) (fault-pair (cabled _ _) _ e) ∙ e)
+
+pub overflow_step-p : goal.overflow_step-p
+overflow_step-p c = omega arith
+
+pub loop-p-smaller : goal.loop-p-smaller
+loop-p-smaller c = omega arith
+
+pub loop-p-preserved : goal.loop-p-preserved
+loop-p-preserved c = (
+  below_more _ _ c.loop-p.invariant.0 (fine-pair (cabled _ _) _ (sym c.pair_fault-found.ensures ∙ c.enum_told.given.1)),
+  omega arith,
+  omega arith,
+)
+
+pub returns : goal.returns
+returns c =
+    let k : Cabling = cabled c.args.n c.args.pairs.now in
+    c.node_fault.ensures ∙ node-table k (λ q h. (c.loop-p.invariant.0 q (omega arith)).0) (omega arith) c.table_of-t.ensures
+    ∙ sym (link-fine k c.loop-p.p c.loop-p.invariant.0 (omega arith))

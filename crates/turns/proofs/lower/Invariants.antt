@@ -1,0 +1,16 @@
+-- `turns::lower` meets its contract. The invariant: what is found, and what is left and has a lower label, is all of w that has one.
+use mathlib.Core.Path.{refl}
+use lib.ListN.{get_or}
+use Rattle.finite.specs.Truth.{below}
+use Rattle.nodes.specs.Limits.{max_nodes}
+use Rattle.nodes.specs.Members.{members}
+use Rattle.nodes.proofs.Words.{next-less, rest_at}
+use Rattle.nodes.proofs.Members.{members-lt, some_left, none_left}
+use Rattle.turns.proofs.Sift.{Sifting, sift_none, sift_more, sift_all}
+use Rattle.turns.proofs.lower.Given as goal
+
+abbrev pub invariant-loop-u : goal.invariant-loop-u
+invariant-loop-u l = Sifting (λ a. below (get_or l.labels a 0) l.x) (members l.w) (members l.found) (members l.left)
+
+abbrev pub decreases-loop-u : goal.decreases-loop-u
+decreases-loop-u l = members l.left
