@@ -13,5 +13,5 @@ unfolding decimal_of
 returns c =
     let n : ℕ = c.args.n in
     c.put.ensures
-    ∙ ap (behind (page c.args.buffer.now c.args.at)) (c.decimal-k.ensures.1.1
-    ∙ ap (λ (k : ℕ). last_digits 10 k n) (fewest-places n c.decimal-k.result c.ranges.n.fits c.decimal-k.ensures.1.0))
+    ∙ ap (behind (page c.args.buffer.now c.args.at)) (c.decimal-k.ensures.digits
+    ∙ ap (λ (k : ℕ). last_digits 10 k n) (fewest-places n c.decimal-k.result c.ranges.n.fits c.decimal-k.ensures.len))
