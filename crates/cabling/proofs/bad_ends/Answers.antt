@@ -2,7 +2,6 @@
 use mathlib.Core.Path.{sym}
 use mathlib.Core.Logic.{inl, inr}
 use native.Mathlib.Omega.{arith}
-use borrow.Author.Rules.{rules}
 use Rattle.finite.proofs.Decide.{pass, agree, decide_leb}
 use Rattle.cabling.specs.Cabling.{cabled}
 use Rattle.cabling.proofs.Tests.{decide_ends}

@@ -2,7 +2,6 @@
 use mathlib.Core.Path.{sym, ◌∙◌}
 use mathlib.Core.Logic.{inl, inr}
 use native.Mathlib.Omega.{arith}
-use borrow.Author.Rules.{rules}
 use Rattle.cabling.specs.Cabling.{cabled}
 use Rattle.cabling.proofs.Cases.{whole-count, whole_shape, whole-links}
 use Rattle.cabling.proofs.fault.Goals as goal

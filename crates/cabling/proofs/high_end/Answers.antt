@@ -1,7 +1,6 @@
 -- `cabling::high_end` meets its contract: past the end of a list stands the default.
 use mathlib.Core.Path.{sym}
 use native.Mathlib.Omega.{arith}
-use borrow.Author.Rules.{rules}
 use lib.ListN.{get_or-eq_default}
 use Rattle.cabling.proofs.high_end.Goals as goal
 

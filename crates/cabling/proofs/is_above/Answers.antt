@@ -1,7 +1,6 @@
 -- `cabling::is_above` meets its contract: equal first ends leave it to the second.
 use mathlib.Core.Logic.{inl, inr, ⊎_elim}
 use native.Mathlib.Omega.{arith}
-use borrow.Author.Rules.{rules}
 use Rattle.finite.proofs.Decide.{agree, decide_ltb}
 use Rattle.cabling.proofs.Tests.{decide_above}
 use Rattle.cabling.proofs.is_above.Goals as goal

@@ -1,12 +1,8 @@
 -- `cabling::link_fault` meets its contract. The invariant: the pairs passed are fine.
-use mathlib.Core.Path.{◌≡◌, sym, ◌∙◌}
-use Prim.Native.Nat.{ℕ, ◌-◌, ◌/◌, ◌≤◌, ◌<◌}
+use mathlib.Core.Path.{sym, ◌∙◌}
 use native.Mathlib.Omega.{arith}
-use borrow.Author.Rules.{rules}
 use borrow.Author.Count.{below_none, below_more}
-use lib.ListN.{length}
 use Rattle.cabling.specs.Cabling.{Cabling, cabled}
-use Rattle.cabling.specs.Verdicts.{PairFine}
 use Rattle.cabling.proofs.Cases.{fault-pair, fine-pair, link_bad, link-fine}
 use Rattle.cabling.proofs.Width.{node-table}
 use Rattle.cabling.proofs.link_fault.Goals as goal
@@ -17,7 +13,7 @@ loop-p-init c = (below_none _, omega arith, omega arith)
 pub returns-in-Fault : goal.returns-in-Fault
 returns-in-Fault c =
     let l = c.loop-p in
-    let e = sym c.pair_fault-found.ensures ∙ c.found.given.1 in
+    let e = sym c.pair_fault-found.ensures ∙ c.in-Fault.is in
     sym (link_bad (cabled _ _) l.p l.invariant.0 (omega arith) (fault-pair (cabled _ _) _ e) ∙ e)
 
 pub overflow_step-p : goal.overflow_step-p
@@ -28,7 +24,7 @@ loop-p-smaller c = omega arith
 
 pub loop-p-preserved : goal.loop-p-preserved
 loop-p-preserved c = (
-  below_more _ _ c.loop-p.invariant.0 (fine-pair (cabled _ _) _ (sym c.pair_fault-found.ensures ∙ c.enum_told.given.1)),
+  below_more _ _ c.loop-p.invariant.0 (fine-pair (cabled _ _) _ (sym c.pair_fault-found.ensures ∙ c.in_default.is)),
   omega arith,
   omega arith,
 )

@@ -1,6 +1,5 @@
 -- `cabling::lowest_apart` meets its contract: the lowest node outside what is reached, where it is one of the first n.
 use mathlib.Core.Path.{◌≡◌}
-use borrow.Author.Rules.{rules}
 use Rattle.finite.specs.Truth.{◌&◌, below}
 use Rattle.finite.specs.Search.{least}
 use Rattle.finite.proofs.Search.{least-found-among, least-none-among}
@@ -8,10 +7,11 @@ use Rattle.nodes.specs.Limits.{max_nodes}
 use Rattle.network.specs.Table.{edge_of}
 use Rattle.cabling.specs.Faults.{unreached}
 use Rattle.cabling.proofs.Apart.{unreached_past, apart_word}
+use Rattle.cabling.proofs.lowest_apart.Goals.{After-lowest-v}
 use Rattle.cabling.proofs.lowest_apart.Goals as goal
 
 -- what the words come to
-lowest : (c : goal.After-lowest-v) →
+lowest : (c : After-lowest-v) →
     c.lowest-v.result ≡ least max_nodes (λ u. below u c.args.n & unreached max_nodes (edge_of c.args.t.now) u)
 lowest c =
     apart_word _ _ c.one.ensures c.flood-seen.ensures c.first.ensures c.difference.ensures c.lowest-v.ensures

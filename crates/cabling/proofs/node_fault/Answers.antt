@@ -1,7 +1,6 @@
 -- `cabling::node_fault` meets its contract: each way out is a case of the definition.
 use mathlib.Core.Path.{sym}
 use native.Mathlib.Omega.{arith}
-use borrow.Author.Rules.{rules}
 use Rattle.cabling.proofs.Cases.{node-crowded, node_apart, node-fine}
 use Rattle.cabling.proofs.node_fault.Goals as goal
 

@@ -1,7 +1,6 @@
 -- `cabling::not_above` meets its contract: the first pair has none before it.
 use mathlib.Core.Path.{sym, ap}
 use mathlib.Core.Logic.{inl}
-use borrow.Author.Rules.{rules}
 use Rattle.finite.specs.Truth.{non}
 use Rattle.finite.proofs.Truth.{not-non, and_true, true-non, ne_same}
 use Rattle.finite.proofs.Decide.{fail}

@@ -1,6 +1,5 @@
 -- `cabling::pair_fault` meets its contract: the ends are tested before the place.
 use mathlib.Core.Path.{sym, ◌∙◌}
-use borrow.Author.Rules.{rules}
 use Rattle.cabling.specs.Cabling.{cabled}
 use Rattle.cabling.proofs.Cases.{pair_ends, pair_order, pair-fine}
 use Rattle.cabling.proofs.Tests.{decide_ends, decide_order}
