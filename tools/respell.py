@@ -1,12 +1,13 @@
 #!/usr/bin/env python3
 """Brings this repository's own definitions and lemmas to the spelling of today's Rattle, after port.py has run.
 
-usage: python3 tools/respell.py [--list]      at the top of the repository
+usage: python3 tools/respell.py [--list | --papers]      at the top of the repository
 
 Words are in snake case, and a dash joins two names: `labelsOf` becomes `labels_of`, `sum-cong` becomes `sum_cong`, and
 `set_of-has` keeps its dash, since `has` is a definition. Types, modules, functions of src/ and names of the library keep theirs.
 What is declared in a file of specs/ or proofs/ is renamed wherever it stands: in these, in clauses, in must-fail edits and in
-documents. A name whose new spelling is taken keeps its dashes. With --list it only prints the renamings.
+documents. A name whose new spelling is taken keeps its dashes. With --list it only prints the renamings. With --papers, afterwards, it brings to documents and edits what
+port.py respelled where it is declared.
 """
 import os
 import re
@@ -124,7 +125,22 @@ def prose(text, new):
     return re.sub(r"`[^`\n]*`", lambda m: spell(m.group(0), new), spell(text, camel))
 
 
+def papers():
+    """In documents and edits: names in camel case whose spelling in words is declared by now."""
+    own = declared()[0] | {"get_or"}
+    for path in [*files("crates", "docs"), "README.md", "CONTRIBUTING.md"]:
+        if path.endswith((".edit", ".md")) and not path.endswith("PORT.md"):
+            found = re.findall(r"(?<![\w'·◌-])[a-z]\w*[A-Z][\w'-]*", text_of(path))
+            turned = spell(text_of(path), {name: snake(name) for name in found if snake(name) in own})
+            if turned != text_of(path):
+                with open(path, "w", encoding="utf-8") as f:
+                    f.write(turned)
+
+
 def main():
+    if "--papers" in sys.argv:
+        papers()
+        return
     for path, old, name in FIRST:
         text = re.sub(r"(?<![\w.·-])" + old + r"(?![\w-])", name, text_of(path))
         with open(path, "w", encoding="utf-8") as f:
