@@ -17,7 +17,7 @@ pub choose_two-sum-requires : goal.choose_two-sum-requires
 choose_two-sum-requires c = adding_few c.loop-a.invariant.0 (size_of _ c.rising.ensures c.size.ensures)
 
 pub overflow_add-sum : goal.overflow_add-sum
-overflow_add-sum c = omega (arith, loop-again c)
+overflow_add-sum c = omega (arith, (adding_more c.loop-a.invariant.0 (size_of _ c.rising.ensures c.size.ensures) c.choose_two-sum.ensures).bound)
 
 pub overflow_step-a : goal.overflow_step-a
 overflow_step-a c = omega arith

@@ -9,7 +9,7 @@ use Rattle.turns.proofs.Sift.{not_lower}
 use Rattle.turns.proofs.rising.Goals as goal
 
 pub overflow_add-byte_at : goal.overflow_add-byte_at
-overflow_add-byte_at c = omega (arith, c.shared_slice_known-2-1.given c.args.v)
+overflow_add-byte_at c = omega (arith, c.type_inv.labels c.args.v)
 
 pub returns : goal.returns
 unfolding rises edge_of

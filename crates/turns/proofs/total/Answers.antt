@@ -13,7 +13,7 @@ pub choose_two-sum-requires : goal.choose_two-sum-requires
 choose_two-sum-requires c = adding_few c.loop-v.invariant.0 c.degree.ensures
 
 pub overflow_add-sum : goal.overflow_add-sum
-overflow_add-sum c = omega (arith, loop-again c)
+overflow_add-sum c = omega (arith, (adding_more c.loop-v.invariant.0 c.degree.ensures c.choose_two-sum.ensures).bound)
 
 pub overflow_step-v : goal.overflow_step-v
 overflow_step-v c = omega arith
