@@ -10,7 +10,7 @@ returns-then-ends c = sym (pair_ends (cabled _ _) _ ((decide_ends (cabled _ _) _
 
 pub returns-then-order : goal.returns-then-order
 returns-then-order c =
-    sym (pair_order (cabled _ _) _ ((decide_ends (cabled _ _) _).no (sym c.bad_ends-ends.ensures ∙ c.if-ends.false))
+    sym (pair_order (cabled c.args.n c.args.pairs.now) c.args.p ((decide_ends (cabled c.args.n c.args.pairs.now) c.args.p).no (cc))
     ((decide_order _ _).yes (sym c.not_above-order.ensures ∙ c.if-order.true)))
 
 pub returns : goal.returns
