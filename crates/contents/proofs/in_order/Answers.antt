@@ -1,12 +1,9 @@
 -- `contents::in_order` meets its contract. The invariant: the entries passed fit, and `begin` is where the next body is to begin.
 use mathlib.Core.Path.{sym, ◌∙◌}
-use Prim.Native.Nat.{◌-◌, ◌≤◌}
 use native.Mathlib.Omega.{arith}
-use borrow.Author.Tests.{not-true, not-false}
 use Rattle.finite.proofs.Truth.{refute}
-use Rattle.format.specs.Bytes.{AllBytes}
 use Rattle.format.proofs.Contents.{in_order_parts}
-use Rattle.contents.proofs.Fitted.{found-entry, fitted_none, fitted_more, unfitted, length-low, fitted_ends, fitted_first, fitted_all, Fitted}
+use Rattle.contents.proofs.Fitted.{found-entry, fitted_none, fitted_more, unfitted, length-low, fitted_ends, fitted_first, fitted_all}
 use Rattle.contents.proofs.in_order.Goals as goal
 
 pub returns-then-image-gt-MAX_IMAGE : goal.returns-then-image-gt-MAX_IMAGE
@@ -19,15 +16,14 @@ pub returns-then-byte_at-k : goal.returns-then-byte_at-k
 returns-then-byte_at-k c = sym (refute _ (λ h. let p = in_order_parts _ _ h in omega arith))
 
 pub overflow_mul-begin : goal.overflow_mul-begin
-overflow_mul-begin c = omega (arith, c.shared-slice-known.given 1)
+overflow_mul-begin c = omega (arith, c.type_inv.image 1)
 
 pub overflow_add-begin : goal.overflow_add-begin
-overflow_add-begin c = omega (arith, c.shared-slice-known.given 1)
+overflow_add-begin c = omega (arith, c.type_inv.image 1)
 
 pub loop-i-init : goal.loop-i-init
 loop-i-init c =
-    let known = c.shared-slice-known.given in
-    (fitted_none _ _, omega arith, omega (arith, known 1), λ i. (known i).fits)
+    (fitted_none _ _, omega arith, omega (arith, (c.type_inv.image 1).fits), λ i. (c.type_inv.image i).fits)
 
 pub entry_fits-requires : goal.entry_fits-requires
 entry_fits-requires c = omega arith
@@ -35,7 +31,7 @@ entry_fits-requires c = omega arith
 pub returns-then-not-entry_fits : goal.returns-then-not-entry_fits
 returns-then-not-entry_fits c =
     let inv = c.loop-i.invariant in
-    sym (refute _ (unfitted inv.0 (found-entry _ _ c.stepped-found.ensures) (omega arith) (sym c.entry_fits.ensures ∙ not-true _ c.if-not-entry_fits.true)))
+    sym (refute _ (unfitted inv.0 (found-entry _ _ c.stepped-found.ensures) (omega arith) (sym c.entry_fits.ensures ∙ c.if-not-entry_fits.true)))
 
 pub overflow_add-begin-in-loop-i : goal.overflow_add-begin-in-loop-i
 overflow_add-begin-in-loop-i c =
@@ -51,7 +47,7 @@ loop-i-smaller c = omega arith
 pub loop-i-preserved : goal.loop-i-preserved
 loop-i-preserved c =
     let inv = c.loop-i.invariant in
-    let fit = sym c.entry_fits.ensures ∙ not-false _ c.if-not-entry_fits.false in
+    let fit = sym c.entry_fits.ensures ∙ c.if-not-entry_fits.false in
     let more = fitted_more inv.0 (found-entry _ _ c.stepped-found.ensures) inv.3 fit in
     (rw c.length_in-begin.ensures more, omega arith, omega arith, inv.3)
 
