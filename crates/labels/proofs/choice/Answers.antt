@@ -1,6 +1,5 @@
 -- `labels::choice` meets its contract. The invariant: the best so far is the least of the candidates passed.
 use mathlib.Core.Path.{◌≡◌, refl, ◌∙◌, ap}
-use mathlib.Core.Bool.{true}
 use mathlib.Core.List.{List}
 use Prim.Native.Nat.{ℕ, suc, ◌<◌, suc-le-suc}
 use native.Mathlib.Omega.{arith}
@@ -13,15 +12,16 @@ use Rattle.nodes.specs.Members.{members}
 use Rattle.nodes.proofs.Words.{lowest_in, next-less, rest_at}
 use Rattle.nodes.proofs.Members.{members-lt, some_left, none_left}
 use Rattle.network.specs.Table.{edge_of}
-use Rattle.labels.specs.Links.{candidate_by, choice_by}
-use Rattle.labels.proofs.Better.{gone, Searching, searching_none, searching_more, searching_all}
+use Rattle.labels.specs.Links.{choice_by}
+use Rattle.labels.proofs.Better.{gone, searching_none, searching_more, searching_all}
 use Rattle.labels.proofs.choice.Goals as goal
+use Rattle.labels.proofs.choice.Goals.{In-loop-v}
 
 degree-low : (t : List ℕ) (u : ℕ) → count max_nodes (edge_of t u) < suc max_nodes
 degree-low t u = suc-le-suc (count-bound max_nodes (edge_of t u))
 
 -- something is left
-some : (t : goal.In-loop-v) → members t.loop-v.left ≡ 0 → ⊥
+some : (t : In-loop-v) → members t.loop-v.left ≡ 0 → ⊥
 some t = some_left t.is_empty.ensures t.loop-v-test.true
 
 pub overflow_add-best : goal.overflow_add-best

@@ -1,5 +1,4 @@
 -- `labels::give` meets its contract: a node that is none gets no label.
-use borrow.Author.Rules.{rules}
 use Rattle.finite.proofs.Truth.{lt-below, le_below}
 use Rattle.rule.specs.Labels.{give}
 use Rattle.labels.proofs.give.Goals as goal

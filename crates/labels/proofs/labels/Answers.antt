@@ -1,15 +1,14 @@
 -- `labels::labels` meets its contract: the loop is the stages, one after the other.
 use mathlib.Core.Path.{◌≡◌, sym, ◌∙◌, ap, ap₂}
-use Prim.Native.Nat.{◌-◌, ◌≤◌, min}
+use Prim.Native.Nat.{min}
 use native.Mathlib.Nat.{le_trans, le_of_eq, min-le_right}
 use native.Mathlib.Omega.{arith}
 use lib.ListN.{length}
 use Rattle.nodes.specs.Limits.{max_nodes}
-use Rattle.nodes.specs.Members.{members}
 use Rattle.network.specs.Table.{edge_of}
 use Rattle.network.proofs.Table.{table_from-length}
 use Rattle.rule.specs.Labels.{labelled, labels_of}
-use Rattle.labels.proofs.Giving.{Giving, giving_none, giving_more}
+use Rattle.labels.proofs.Giving.{giving_none, giving_more}
 use Rattle.labels.proofs.labels.Goals as goal
 
 pub loop-k-init : goal.loop-k-init

@@ -5,7 +5,7 @@ use Prim.Native.Nat.{ℕ, ◌+◌, ◌*◌, ◌-◌, ◌≤◌}
 use native.Mathlib.Nat.{zero-add, mul-le-mul}
 use native.Mathlib.Omega.{arith}
 use lib.Dec.{leb}
-use Rattle.finite.specs.Sum.{count, sum_if}
+use Rattle.finite.specs.Sum.{sum_if}
 use Rattle.finite.specs.Sets.{has}
 use Rattle.finite.proofs.Sum.{count-bound, sum_if-within}
 use Rattle.nodes.specs.Limits.{max_nodes}
@@ -14,12 +14,10 @@ use Rattle.nodes.proofs.Words.{next-less, rest_at}
 use Rattle.nodes.proofs.Members.{some_left, none_left}
 use Rattle.network.specs.Table.{neighbours_of, edge_of}
 use Rattle.labels.specs.Links.{room_by}
-use Rattle.labels.proofs.Members.{Summing, summing_more, summing_all}
+use Rattle.labels.proofs.Members.{summing_more, summing_all}
+use Rattle.labels.proofs.room.Invariants.{around}
 use Rattle.labels.proofs.room.Goals as goal
-
--- what each neighbour adds: its degree minus 1
-abbrev around : List ℕ → ℕ → ℕ
-around t u = count max_nodes (edge_of t u) - 1
+use Rattle.labels.proofs.room.Goals.{In-loop-u}
 
 around-le : (t : List ℕ) (u : ℕ) → around t u ≤ max_nodes
 around-le t u = let b = count-bound max_nodes (edge_of t u) in omega arith
@@ -29,7 +27,7 @@ unfolding edge_of
 sum-start t v e = zero-add _ ∙ ap (λ (x : ℕ). sum_if max_nodes (has x) (around t)) e
 
 -- something is left
-some : (t : goal.In-loop-u) → members t.loop-u.left ≡ 0 → ⊥
+some : (t : In-loop-u) → members t.loop-u.left ≡ 0 → ⊥
 some t = some_left t.is_empty.ensures t.loop-u-test.true
 
 pub loop-u-init : goal.loop-u-init
