@@ -1,0 +1,17 @@
+-- `rows::tables_of` meets its contract. The invariant: the columns of the destinations below d are placed.
+use mathlib.Core.Path.{◌≡◌, sym, ap}
+use Prim.Native.Nat.{◌-◌, ◌≤◌, min}
+use native.Mathlib.Omega.{arith}
+use lib.ListN.{length, get_or}
+use Rattle.nodes.specs.Limits.{max_nodes}
+use Rattle.network.specs.Table.{edge_of}
+use Rattle.rows.specs.declared.Ways.{Ways}
+use Rattle.rows.proofs.Into.{into-length}
+use Rattle.rows.proofs.Tabling.{Tabling, tabling_none, tabling_more, tabling_all, up-length, down_length, column_sizes}
+use Rattle.rows.proofs.tables_of.Given as goal
+
+abbrev pub invariant-loop-d : goal.invariant-loop-d
+invariant-loop-d l = Tabling (edge_of l.t) (λ u. get_or l.labels u 0) l.m l.up l.down l.free l.falling l.d × (l.m ≡ min l.n max_nodes) × (l.d ≤ l.m)
+
+abbrev pub decreases-loop-d : goal.decreases-loop-d
+decreases-loop-d l = l.m - l.d
