@@ -80,7 +80,7 @@ module _ (b list : List ℕ) (fine : start_fault b list ≡ Fine) where
 
     -- the record has a mark for each of 256 messages
     pub running_marks : length last.delivered ≡ max_messages
-    running_marks = (reached_state tabled listed i.run).1.kept.delivered-size
+    running_marks = (reached_state tabled listed i.run).1.kept.delivered_size
 
     running_free : (span : ℕ) → span ≡ node_channels * min last.nodes max_nodes → FreeFrom span last.holders
     running_free span e =
@@ -91,4 +91,4 @@ module _ (b list : List ℕ) (fine : start_fault b list ≡ Fine) where
 
     -- no channel is held but those of the N nodes, so a pick may leave out those behind
     pub running_pick : (span : ℕ) → span ≡ node_channels * min last.nodes max_nodes → pick_in span next last ≡ pick_of next last
-    running_pick span e = pick-in span next last (reached_state tabled listed i.run).1.kept.holders-size (running_free span e)
+    running_pick span e = pick-in span next last (reached_state tabled listed i.run).1.kept.holders_size (running_free span e)

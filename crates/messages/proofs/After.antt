@@ -36,15 +36,15 @@ module _ {n : ℕ} {labels free falling list : List ℕ} {r : Record} (m : ℕ) 
   moved-kept = record {
     nodes = kept.nodes;
     messages = kept.messages;
-    labels_are = kept.labels-are;
-    free_are = kept.free-are;
-    falling_are = kept.falling-are;
+    labels_are = kept.labels_are;
+    free_are = kept.free_are;
+    falling_are = kept.falling_are;
     targets = kept.targets;
-    heads_size = length-set r.heads m _ ∙ kept.heads-size;
-    classes_size = length-set r.classes m _ ∙ kept.classes-size;
+    heads_size = length-set r.heads m _ ∙ kept.heads_size;
+    classes_size = length-set r.classes m _ ∙ kept.classes_size;
     wants-size = length-set r.wants m _ ∙ kept.wants-size;
-    delivered_size = kept.delivered-size;
-    holders_size = length-set r.holders _ _ ∙ kept.holders-size;
+    delivered_size = kept.delivered_size;
+    holders_size = length-set r.holders _ _ ∙ kept.holders_size;
   }
 
   arrived-kept : Kept n labels free falling list (arrived r m)
@@ -52,14 +52,14 @@ module _ {n : ℕ} {labels free falling list : List ℕ} {r : Record} (m : ℕ) 
   arrived-kept = record {
     nodes = kept.nodes;
     messages = kept.messages;
-    labels_are = kept.labels-are;
-    free_are = kept.free-are;
-    falling_are = kept.falling-are;
+    labels_are = kept.labels_are;
+    free_are = kept.free_are;
+    falling_are = kept.falling_are;
     targets = kept.targets;
-    heads_size = kept.heads-size;
-    classes_size = kept.classes-size;
+    heads_size = kept.heads_size;
+    classes_size = kept.classes_size;
     wants-size = kept.wants-size;
-    delivered_size = length-set r.delivered m _ ∙ kept.delivered-size;
+    delivered_size = length-set r.delivered m _ ∙ kept.delivered_size;
     holders_size = tabulate-length max_channels _;
   }
 
@@ -104,7 +104,7 @@ module _ {n : ℕ} {edge : ℕ → ℕ → Bool} {labels free falling list : Lis
     next = behind tabled listed state m low more
 
     chosen : (c : ℕ) → want r m ≡ c → holder (moved r m) c ≡ suc m
-    chosen c e = ap (holder (moved r m)) (sym e) ∙ moved-holder r m (let b = state.kept.holders-size in omega arith)
+    chosen c e = ap (holder (moved r m)) (sym e) ∙ moved-holder r m (let b = state.kept.holders_size in omega arith)
 
     -- by the claims it holds that one and what it held
     took : (c : ℕ) → holds itinerary keeps ahead m c ≡ same (wanted itinerary s m) c or holds itinerary keeps s m c
@@ -161,7 +161,7 @@ module _ {n : ℕ} {edge : ℕ → ℕ → Bool} {labels free falling list : Lis
 
     -- the class that the machine writes is that behind the channel
     moved-class-is : class (moved r m) m ≡ class_of next.class-then
-    moved-class-is = moved-class r m (placed state.kept.classes-size) ∙ next.class-is
+    moved-class-is = moved-class r m (placed state.kept.classes_size) ∙ next.class-is
 
     moved-free : is_channel_free (moved r m) m ≡ next.class-then
     moved-free = free-is (moved r m) m moved-class-is
@@ -173,7 +173,7 @@ module _ {n : ℕ} {edge : ℕ → ℕ → Bool} {labels free falling list : Lis
     moved-way : (c : ℕ) → c < k → OnIt c (hops_to n edge labels list c (ahead.taken c)) (is_channel_free (moved r m) c) (head (moved r m) c)
     moved-way =
         by_message (λ c. c < k → OnIt c (hops_to n edge labels list c (ahead.taken c)) (is_channel_free (moved r m) c) (head (moved r m) c))
-        (λ l. rw (taken_here s m, moved-free, moved-head r m (placed state.kept.heads-size)) next.way)
+        (λ l. rw (taken_here s m, moved-free, moved-head r m (placed state.kept.heads_size)) next.way)
         (λ c e l. rw (taken-there s m c e, moved_same c e, moved_heads r m c e) (state.way c l))
 
     moved-classed : (c : ℕ) → c < k → class (moved r m) c ≡ class_of (is_channel_free (moved r m) c)
@@ -192,7 +192,7 @@ module _ {n : ℕ} {edge : ℕ → ℕ → Bool} {labels free falling list : Lis
     ended = finishing s m
 
     left-holder : (c : ℕ) → holder (arrived r m) c ≡ released (suc m) (holder r c)
-    left-holder = arrived_holders r m state.kept.holders-size
+    left-holder = arrived_holders r m state.kept.holders_size
 
     -- what it held is free, the rest as it was
     left_case {ℓ} : {A : Type ℓ} (c : ℕ) → (holder r c ≡ suc m → holder (arrived r m) c ≡ 0 → A)
@@ -218,7 +218,7 @@ module _ {n : ℕ} {edge : ℕ → ℕ → Bool} {labels free falling list : Lis
     arrived-done : (c : ℕ) → c < k → is_delivered (arrived r m) c ≡ ended.done c
     arrived-done =
         by_message (λ c. c < k → is_delivered (arrived r m) c ≡ ended.done c)
-        (λ l. arrived_mark r m (placed state.kept.delivered-size) ∙ sym (done-here s m))
+        (λ l. arrived_mark r m (placed state.kept.delivered_size) ∙ sym (done-here s m))
         (λ c e l. arrived_marks r m c e ∙ state.says.done c l ∙ sym (done-there s m c e))
 
     arrived-count : (arrived r m).moves ≡ made k ended

@@ -96,7 +96,7 @@ module _ {n : ℕ} {edge : ℕ → ℕ → Bool} {labels free falling list : Lis
       more = more-to-take tabled listed state m low d;
       one = rw (sym (next-wanted tabled listed state m low d)) (record {
         free = z;
-        taken = moved-holder r m (let b = state.kept.holders-size in omega arith);
+        taken = moved-holder r m (let b = state.kept.holders_size in omega arith);
         others = moved_holders r m;
       });
       then = (moved-state tabled listed state m low (not_done tabled listed state m low u) d z).says;
@@ -105,7 +105,7 @@ module _ {n : ℕ} {edge : ℕ → ℕ → Bool} {labels free falling list : Lis
     gives_back : want r m ≡ all_taken → Arrived n edge labels list r m (arrived r m)
     gives_back e =
         let last = (all-taken tabled listed state m low (le_of_eq (sym e))).0 in
-        let h = arrived_holders r m state.kept.holders-size in
+        let h = arrived_holders r m state.kept.holders_size in
         record {
           progress = s;
           before = state.says;

@@ -152,9 +152,9 @@ module _ {n : ℕ} {edge : ℕ → ℕ → Bool} {labels free falling list : Lis
 
       hop-is : hop_within r.labels r.free r.falling r.nodes (head r m) (class r m) (target r m) ≡ Next onward (class_of free-then)
       hop-is =
-          let labels_are = state.kept.labels-are in
-          let free_are = state.kept.free-are in
-          let falling_are = state.kept.falling-are in
+          let labels_are = state.kept.labels_are in
+          let free_are = state.kept.free_are in
+          let falling_are = state.kept.falling_are in
           let nodes = state.kept.nodes in
           let class-is = class_now in
           let to = goes in
