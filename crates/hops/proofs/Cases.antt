@@ -2,11 +2,9 @@
 use mathlib.Core.Path.{◌≡◌, refl, sym, ◌∙◌, ap}
 use mathlib.Core.Bool.{true, false}
 use mathlib.Core.List.{List, [], ◌∷◌}
-use mathlib.Core.Logic.{◌⊎◌, ⊎_elim}
 use Prim.Native.Nat.{ℕ, zero, suc, ◌*◌, ◌≤◌, ◌<◌, min}
 use native.Mathlib.Omega.{arith}
 use lib.ListN.{length, get_or, take}
-use denote.Enum.Declared.{tag_of}
 use Rattle.finite.specs.Truth.{◌or◌, same, below}
 use Rattle.finite.proofs.Truth.{no_tf, bcase, refute, both, and_l, and_r, or_l, or_r, or_false, same-eq, eq-same, ne_same, same_refl, below-lt, lt-below, le_below}
 use Rattle.lawful.specs.Turn.{label_in}
@@ -17,7 +15,6 @@ use Rattle.hops.specs.declared.HopAnswer.{HopAnswer}
 use Rattle.hops.specs.declared.HopAnswer.TheVariants.{Next, NoWay, Refused}
 use Rattle.hops.specs.Row.{row_known, row_in}
 use Rattle.hops.specs.Hop.{stored_in, class_after, onward_of, hop_known, hop_in, hop_within, has_next, walk_by}
-use Rattle.hops.specs.contracts.HopAnswer.{the_type}
 use Rattle.hops.proofs.Lookup.{row-refused, row-length}
 
 -- ---- the class after it
@@ -118,8 +115,8 @@ fronts_within labels free falling n node class destination e p q r h = rw (← e
 -- ---- by its variant
 
 -- an answer that is not the first of the variants names no node
-pub other_none : (a : HopAnswer) → (tag_of the_type a ≡ 1) ⊎ (tag_of the_type a ≡ 2) → has_next a ≡ false
-other_none (Next next class) h = absurd (⊎_elim (λ e. let z : ◌≡◌ {A = ℕ} 0 1 = e in omega arith) (λ e. let z : ◌≡◌ {A = ℕ} 0 2 = e in omega arith) h)
+pub other_none : (a : HopAnswer) → ((next class : ℕ) → a ≡ Next next class → ⊥) → has_next a ≡ false
+other_none (Next next class) h = absurd (h next class refl)
 other_none NoWay h = refl
 other_none (Refused r) h = refl
 
