@@ -1,6 +1,5 @@
 -- `rows::column_of` meets its contract: after the last round every node has its entry.
 use Rattle.rows.proofs.Rounds.{column-at}
-use borrow.Author.Rules.{rules}
 use Rattle.rows.proofs.column_of.Goals as goal
 
 pub returns : goal.returns

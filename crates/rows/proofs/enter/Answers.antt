@@ -4,7 +4,7 @@ use native.Mathlib.Omega.{arith}
 use Rattle.nodes.specs.Members.{members}
 use Rattle.nodes.proofs.Passing.{Pass, pass}
 use Rattle.nodes.proofs.Members.{members-lt, none_left}
-use Rattle.rows.proofs.Into.{Entering, entering_none, entering_more, entering_all}
+use Rattle.rows.proofs.Into.{entering_none, entering_more, entering_all}
 use Rattle.rows.proofs.enter.Goals as goal
 use Rattle.rows.proofs.enter.Goals.{After-rest-left}
 

@@ -1,7 +1,6 @@
 -- `rows::lead` meets its contract: the lowest member of the joined word.
 use mathlib.Core.Path.{◌∙◌}
 use Rattle.rows.proofs.Joining.{lead-word}
-use borrow.Author.Rules.{rules}
 use Rattle.rows.proofs.lead.Goals as goal
 
 pub returns : goal.returns

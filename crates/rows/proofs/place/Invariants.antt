@@ -1,9 +1,6 @@
 -- `rows::place` meets its contract. The invariant: the cells of the column before row v are placed.
-use mathlib.Core.Path.{refl, sym, ◌∙◌}
-use Prim.Native.Nat.{◌+◌, ◌-◌, ◌*◌, ◌≤◌, ◌<◌}
-use native.Mathlib.Omega.{arith}
-use Rattle.rows.specs.Tables.{table_size}
-use Rattle.rows.proofs.Grid.{Placing, placing_none, placing_more, placing_all, cell-fits}
+use Prim.Native.Nat.{◌-◌, ◌≤◌}
+use Rattle.rows.proofs.Grid.{Placing}
 use Rattle.rows.proofs.place.Given as goal
 
 abbrev pub invariant-loop-v : goal.invariant-loop-v

@@ -3,7 +3,6 @@ use Rattle.finite.proofs.Sets.{has-set_of}
 use Rattle.nodes.specs.Limits.{max_nodes}
 use Rattle.rows.specs.Steps.{round_of}
 use Rattle.rows.proofs.Rounds.{search_ext}
-use borrow.Author.Rules.{rules}
 use Rattle.rows.proofs.round.Goals as goal
 
 pub half-free-requires : goal.half-free-requires

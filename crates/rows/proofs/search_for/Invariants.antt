@@ -1,15 +1,10 @@
 -- `rows::search_for` meets its contract. The invariant: after k rounds the members of layer k have their entries, and any other node leads
 -- only to what joined last.
-use mathlib.Core.Path.{◌≡◌}
-use Prim.Native.Nat.{◌-◌, ◌≤◌, ◌<◌}
-use native.Mathlib.Omega.{arith}
-use borrow.Author.Rules.{rules}
-use Rattle.nodes.specs.Limits.{max_nodes}
+use Prim.Native.Nat.{◌-◌, ◌≤◌}
 use Rattle.nodes.specs.Members.{members}
-use Rattle.nodes.proofs.Members.{is-empty}
 use Rattle.rows.specs.Steps.{rounds}
-use Rattle.rows.proofs.Rounds.{Searching, searching_none, searching_more, searching_still}
-use Rattle.rows.proofs.Frontier.{Frontier, frontier_none, frontier_more, asking}
+use Rattle.rows.proofs.Rounds.{Searching}
+use Rattle.rows.proofs.Frontier.{Frontier}
 use Rattle.rows.proofs.search_for.Given as goal
 
 abbrev pub invariant-loop-k : goal.invariant-loop-k

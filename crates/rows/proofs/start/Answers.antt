@@ -1,6 +1,5 @@
 -- `rows::start` meets its contract.
 use Rattle.rows.specs.Steps.{search_from}
-use borrow.Author.Rules.{rules}
 use Rattle.rows.proofs.start.Goals as goal
 
 pub returns : goal.returns

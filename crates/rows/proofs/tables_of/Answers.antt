@@ -1,13 +1,11 @@
 -- `rows::tables_of` meets its contract. The invariant: the columns of the destinations below d are placed.
 use mathlib.Core.Path.{◌≡◌, sym, ap}
-use Prim.Native.Nat.{◌-◌, ◌≤◌, min}
 use native.Mathlib.Omega.{arith}
-use lib.ListN.{length, get_or}
+use lib.ListN.{length}
 use Rattle.nodes.specs.Limits.{max_nodes}
-use Rattle.network.specs.Table.{edge_of}
 use Rattle.rows.specs.declared.Ways.{Ways}
 use Rattle.rows.proofs.Into.{into-length}
-use Rattle.rows.proofs.Tabling.{Tabling, tabling_none, tabling_more, tabling_all, up-length, down_length, column_sizes}
+use Rattle.rows.proofs.Tabling.{tabling_none, tabling_more, tabling_all, up-length, down_length, column_sizes}
 use Rattle.rows.proofs.tables_of.Goals as goal
 use Rattle.rows.proofs.tables_of.Goals.{After-column_of-c}
 

@@ -1,13 +1,10 @@
 -- `rows::tables_of` meets its contract. The invariant: the columns of the destinations below d are placed.
-use mathlib.Core.Path.{◌≡◌, sym, ap}
+use mathlib.Core.Path.{◌≡◌}
 use Prim.Native.Nat.{◌-◌, ◌≤◌, min}
-use native.Mathlib.Omega.{arith}
-use lib.ListN.{length, get_or}
+use lib.ListN.{get_or}
 use Rattle.nodes.specs.Limits.{max_nodes}
 use Rattle.network.specs.Table.{edge_of}
-use Rattle.rows.specs.declared.Ways.{Ways}
-use Rattle.rows.proofs.Into.{into-length}
-use Rattle.rows.proofs.Tabling.{Tabling, tabling_none, tabling_more, tabling_all, up-length, down_length, column_sizes}
+use Rattle.rows.proofs.Tabling.{Tabling}
 use Rattle.rows.proofs.tables_of.Given as goal
 
 abbrev pub invariant-loop-d : goal.invariant-loop-d

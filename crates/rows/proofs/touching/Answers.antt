@@ -2,7 +2,7 @@
 use Rattle.nodes.specs.Members.{members}
 use Rattle.nodes.proofs.Passing.{Pass, pass}
 use Rattle.nodes.proofs.Members.{members-lt, none_left}
-use Rattle.rows.proofs.Touched.{Touching, touching_none, touching_more, touching_all}
+use Rattle.rows.proofs.Touched.{touching_none, touching_more, touching_all}
 use Rattle.rows.proofs.touching.Goals as goal
 use Rattle.rows.proofs.touching.Goals.{After-rest-left}
 

@@ -1,8 +1,6 @@
 -- `rows::touching` meets its contract. The invariant: the nodes passed have given their words.
 use Rattle.nodes.specs.Members.{members}
-use Rattle.nodes.proofs.Passing.{Pass, pass}
-use Rattle.nodes.proofs.Members.{members-lt, none_left}
-use Rattle.rows.proofs.Touched.{Touching, touching_none, touching_more, touching_all}
+use Rattle.rows.proofs.Touched.{Touching}
 use Rattle.rows.proofs.touching.Given as goal
 
 abbrev pub invariant-loop-u : goal.invariant-loop-u

@@ -1,12 +1,7 @@
 -- `rows::ways_of` meets its contract. The invariant: both lists are filled from the front.
-use Prim.Native.Nat.{◌-◌, ◌≤◌}
 use native.Mathlib.Omega.{arith}
-use lib.ListN.{get_or}
-use Rattle.finite.specs.Sets.{set_of}
-use Rattle.finite.proofs.Filling.{Filling, filling_none, filling_more, filling_all}
-use Rattle.nodes.specs.Limits.{max_nodes}
-use Rattle.network.specs.Table.{edge_of, table_from}
-use Rattle.lawful.specs.Turn.{rises, falls}
+use Rattle.finite.proofs.Filling.{filling_none, filling_more, filling_all}
+use Rattle.network.specs.Table.{table_from}
 use Rattle.rows.specs.Steps.{ways_of}
 use Rattle.rows.proofs.ways_of.Goals as goal
 

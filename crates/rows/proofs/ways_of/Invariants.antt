@@ -1,13 +1,11 @@
 -- `rows::ways_of` meets its contract. The invariant: both lists are filled from the front.
 use Prim.Native.Nat.{◌-◌, ◌≤◌}
-use native.Mathlib.Omega.{arith}
 use lib.ListN.{get_or}
 use Rattle.finite.specs.Sets.{set_of}
-use Rattle.finite.proofs.Filling.{Filling, filling_none, filling_more, filling_all}
+use Rattle.finite.proofs.Filling.{Filling}
 use Rattle.nodes.specs.Limits.{max_nodes}
-use Rattle.network.specs.Table.{edge_of, table_from}
+use Rattle.network.specs.Table.{edge_of}
 use Rattle.lawful.specs.Turn.{rises, falls}
-use Rattle.rows.specs.Steps.{ways_of}
 use Rattle.rows.proofs.ways_of.Given as goal
 
 abbrev pub invariant-loop-v : goal.invariant-loop-v
