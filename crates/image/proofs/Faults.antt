@@ -10,9 +10,7 @@ use Rattle.finite.specs.Truth.{same}
 use Rattle.finite.proofs.Truth.{bcase, refute, same-eq, same-ne, eq-same, ne_same}
 use Rattle.finite.proofs.Decide.{by, pass, fail}
 use Rattle.nodes.specs.Limits.{max_nodes}
-use Rattle.refusal.specs.declared.Refusal.{Refusal}
 use Rattle.refusal.specs.declared.Refusal.TheVariants.{Contents, Count, Shape, Differs}
-use Rattle.refusal.specs.declared.Verdict.{Verdict}
 use Rattle.refusal.specs.declared.Verdict.TheVariants.{Fine, Fault}
 use Rattle.refusal.specs.Verdicts.{and_then}
 use Rattle.refusal.proofs.Verdicts.{fine-fault, and_then_fine}
