@@ -1,7 +1,6 @@
 -- `turns::choose_two` meets its contract: the product of two numbers up to 64 does not wrap.
 use native.Mathlib.Nat.{lt_of_le_of_lt, mul-le-mul}
 use native.Mathlib.Omega.{arith}
-use borrow.Author.Rules.{rules}
 use lib.Dec.{lit<}
 use Rattle.nodes.specs.Limits.{max_nodes}
 use Rattle.turns.proofs.choose_two.Goals as goal

@@ -1,5 +1,4 @@
 -- `turns::falling` meets its contract: the members of v's neighbour word whose label is below v's.
-use borrow.Author.Rules.{rules}
 use Rattle.lawful.specs.Turn.{falls}
 use Rattle.network.specs.Table.{edge_of}
 use Rattle.turns.proofs.falling.Goals as goal

@@ -1,12 +1,9 @@
 -- `turns::lower` meets its contract. The invariant: what is found, and what is left and has a lower label, is all of w that has one.
 use mathlib.Core.Path.{refl}
-use lib.ListN.{get_or}
-use Rattle.finite.specs.Truth.{below}
 use Rattle.nodes.specs.Limits.{max_nodes}
-use Rattle.nodes.specs.Members.{members}
 use Rattle.nodes.proofs.Words.{next-less, rest_at}
 use Rattle.nodes.proofs.Members.{members-lt, some_left, none_left}
-use Rattle.turns.proofs.Sift.{Sifting, sift_none, sift_more, sift_all}
+use Rattle.turns.proofs.Sift.{sift_none, sift_more, sift_all}
 use Rattle.turns.proofs.lower.Goals as goal
 
 pub loop-u-init : goal.loop-u-init

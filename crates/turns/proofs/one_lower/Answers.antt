@@ -1,7 +1,6 @@
 -- `turns::one_lower` meets its contract: the label of u is below x, or it is not.
 use mathlib.Core.Path.{◌∙◌}
 use native.Mathlib.Omega.{arith}
-use borrow.Author.Rules.{rules}
 use Rattle.finite.proofs.Truth.{lt-below, le_below}
 use Rattle.turns.proofs.Sift.{one_passes, one_fails}
 use Rattle.turns.proofs.one_lower.Goals as goal

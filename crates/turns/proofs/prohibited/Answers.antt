@@ -1,13 +1,9 @@
 -- `turns::prohibited` meets its contract. The invariant: the sum of u(u-1)/2 over the nodes passed, u being the number of neighbours with higher labels.
 use mathlib.Core.Path.{sym, ◌∙◌}
-use Prim.Native.Nat.{◌-◌, ◌≤◌}
 use native.Mathlib.Omega.{arith}
-use lib.ListN.{get_or}
-use Rattle.lawful.specs.Turn.{rises}
 use Rattle.nodes.specs.Limits.{max_nodes}
-use Rattle.network.specs.Table.{edge_of}
 use Rattle.turns.proofs.Turns.{prohibited-rising}
-use Rattle.turns.proofs.Adding.{Adding, adding_none, adding_few, adding_more, adding_all, size_of}
+use Rattle.turns.proofs.Adding.{adding_none, adding_few, adding_more, adding_all, size_of}
 use Rattle.turns.proofs.prohibited.Goals as goal
 
 pub loop-a-init : goal.loop-a-init

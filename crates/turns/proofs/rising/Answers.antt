@@ -1,6 +1,5 @@
 -- `turns::rising` meets its contract: the members of v's neighbour word whose label is not below v's label plus one.
 use native.Mathlib.Omega.{arith}
-use borrow.Author.Rules.{rules}
 use Rattle.finite.proofs.Sets.{has-set_of, set_of_cong}
 use Rattle.lawful.specs.Turn.{rises}
 use Rattle.nodes.specs.Limits.{max_nodes}

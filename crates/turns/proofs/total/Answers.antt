@@ -1,9 +1,6 @@
 -- `turns::total` meets its contract. The invariant: the sum of d(d-1)/2 over the nodes passed.
-use Prim.Native.Nat.{◌-◌, ◌≤◌}
 use native.Mathlib.Omega.{arith}
-use Rattle.nodes.specs.Limits.{max_nodes}
-use Rattle.network.specs.Table.{edge_of}
-use Rattle.turns.proofs.Adding.{Adding, adding_none, adding_few, adding_more, adding_all}
+use Rattle.turns.proofs.Adding.{adding_none, adding_few, adding_more, adding_all}
 use Rattle.turns.proofs.total.Goals as goal
 
 pub loop-v-init : goal.loop-v-init
