@@ -1,0 +1,14 @@
+-- `records::ends` meets its contract: every message passed has its byte of the list.
+use mathlib.Core.Path.{refl}
+use Prim.Native.Nat.{◌+◌, ◌*◌, ◌-◌, ◌≤◌}
+use native.Mathlib.Omega.{arith}
+use lib.ListN.{get_or}
+use Rattle.messages.specs.Sizes.{max_messages}
+use Rattle.finite.proofs.Filling.{Filling, filling_none, filling_more, filling_all}
+use Rattle.records.proofs.ends.Given as goal
+
+abbrev pub invariant-loop-m : goal.invariant-loop-m
+invariant-loop-m l = Filling (λ i. get_or l.list (2 * i + l.first) 0) l.initial.nodes l.nodes l.m × (l.m ≤ max_messages)
+
+abbrev pub decreases-loop-m : goal.decreases-loop-m
+decreases-loop-m l = max_messages - l.m
