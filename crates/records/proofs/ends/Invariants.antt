@@ -1,10 +1,8 @@
 -- `records::ends` meets its contract: every message passed has its byte of the list.
-use mathlib.Core.Path.{refl}
 use Prim.Native.Nat.{◌+◌, ◌*◌, ◌-◌, ◌≤◌}
-use native.Mathlib.Omega.{arith}
 use lib.ListN.{get_or}
 use Rattle.messages.specs.Sizes.{max_messages}
-use Rattle.finite.proofs.Filling.{Filling, filling_none, filling_more, filling_all}
+use Rattle.finite.proofs.Filling.{Filling}
 use Rattle.records.proofs.ends.Given as goal
 
 abbrev pub invariant-loop-m : goal.invariant-loop-m

@@ -1,11 +1,9 @@
 -- `records::injections` meets its contract: every message passed has the injection channel of its source.
-use mathlib.Core.Path.{refl, ◌∙◌, ap}
 use Prim.Native.Nat.{◌-◌, ◌≤◌}
-use native.Mathlib.Omega.{arith}
 use Rattle.messages.specs.Sizes.{max_messages}
 use Rattle.messages.specs.Channels.{injection}
 use Rattle.messages.specs.Fresh.{source_in}
-use Rattle.finite.proofs.Filling.{Filling, filling_none, filling_more, filling_all}
+use Rattle.finite.proofs.Filling.{Filling}
 use Rattle.records.proofs.injections.Given as goal
 
 abbrev pub invariant-loop-m : goal.invariant-loop-m
