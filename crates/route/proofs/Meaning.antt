@@ -46,4 +46,4 @@ route-short b s t room = short_means _ room (route_fault b s t) (route-not-short
 
 -- RULES 5.4: "from a node to itself that is 0 hops"
 pub route_home : (b : List ℕ) (s : ℕ) → route_bytes b s s ≡ s ∷ []
-route_home b s = ap (λ (l : List ℕ). s ∷ l) (routes.route-home (cabling_in b) s)
+route_home b s = ap (λ (l : List ℕ). s ∷ l) (routes.route_home (cabling_in b) s)
