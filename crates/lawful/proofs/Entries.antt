@@ -7,7 +7,7 @@ use Prim.Native.Nat.{ℕ, suc, ◌+◌, ◌-◌, ◌≤◌, ◌<◌, suc-le-suc}
 use native.Mathlib.Nat.{le_refl}
 use native.Mathlib.Omega.{arith}
 use Rattle.finite.specs.Truth.{same, below}
-use Rattle.finite.specs.Search.{any, least}
+use Rattle.finite.specs.Search.{any}
 use Rattle.finite.specs.Sets.{has}
 use Rattle.finite.proofs.Truth.{no_tf, bcase, refute, or_r, same-eq, same-ne, ne_same, same_refl, below-lt, below-le, lt-below, le_below}
 use Rattle.finite.proofs.Search.{some-any, least-fact, least-found, least_unique}

@@ -1,6 +1,6 @@
 -- A loop over the members of a set passes the lowest one: it was left, it is left no more, and every other is as it was.
 use mathlib.Core.Path.{◌≡◌, refl, sym, ◌∙◌, ap}
-use mathlib.Core.Bool.{Bool, true, false, not}
+use mathlib.Core.Bool.{Bool, true, false}
 use Prim.Native.Nat.{ℕ, ◌^◌, ◌<◌}
 use lib.Dec.{eqb}
 use Rattle.finite.specs.Search.{least}

@@ -1,7 +1,6 @@
 -- `format::body_at` meets its contract: an entry past the image's end has length 0.
 use Prim.Native.Nat.{◌+◌, ◌*◌}
 use native.Mathlib.Omega.{arith}
-use borrow.Author.Rules.{rules}
 use Rattle.format.proofs.Contents.{number-none}
 use Rattle.format.proofs.body_at.Goals as goal
 

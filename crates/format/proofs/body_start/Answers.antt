@@ -1,5 +1,4 @@
 -- `format::body_start` meets its contract: a byte is below 256.
-use borrow.Author.Rules.{rules}
 use native.Mathlib.Omega.{arith}
 use Rattle.format.proofs.body_start.Goals as goal
 

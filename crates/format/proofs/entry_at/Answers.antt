@@ -1,6 +1,5 @@
 -- `format::entry_at` meets its contract: the number is below byte 1, so no sum wraps, and each of the three tests leaves no entry.
 use native.Mathlib.Omega.{arith}
-use borrow.Author.Rules.{rules}
 use Rattle.format.proofs.Contents.{entry-there, entry-missing}
 use Rattle.format.proofs.entry_at.Goals as goal
 

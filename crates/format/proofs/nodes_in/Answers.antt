@@ -1,5 +1,4 @@
 -- `format::nodes_in` meets its contract.
-use borrow.Author.Rules.{rules}
 use Rattle.format.proofs.nodes_in.Goals as goal
 
 pub returns : goal.returns

@@ -1,7 +1,6 @@
 -- `format::number_at` meets its contract: two bytes make a number of 16 bits, and past the image's end both are 0.
 use Prim.Native.Nat.{◌+◌}
 use native.Mathlib.Omega.{arith}
-use borrow.Author.Rules.{rules}
 use Rattle.format.proofs.Contents.{number-none}
 use Rattle.format.proofs.number_at.Goals as goal
 

@@ -2,7 +2,6 @@
 use mathlib.Core.Path.{◌≡◌}
 use Prim.Native.Nat.{◌-◌}
 use native.Mathlib.Omega.{arith}
-use borrow.Author.Rules.{rules}
 use Rattle.format.specs.Contents.{length_at}
 use Rattle.format.proofs.pairs_in.Goals as goal
 

@@ -1,7 +1,6 @@
 -- `format::part` meets its contract.
 use mathlib.Core.Path.{◌∙◌, ap}
 use lib.ListN.{take}
-use borrow.Author.Rules.{rules}
 use Rattle.format.proofs.part.Goals as goal
 
 pub returns : goal.returns

@@ -1,5 +1,4 @@
 -- `format::zero_in` meets its contract.
-use borrow.Author.Rules.{rules}
 use Rattle.format.proofs.zero_in.Goals as goal
 
 pub returns : goal.returns

@@ -1,9 +1,9 @@
 -- `laid::put` meets its contract. The invariant: the first i bytes stand at their place.
-use mathlib.Core.Path.{◌≡◌, refl, ◌∙◌, ap}
+use mathlib.Core.Path.{refl, ◌∙◌, ap}
 use mathlib.Core.List.{List}
-use Prim.Native.Nat.{ℕ, ◌+◌, ◌-◌, ◌≤◌, ◌<◌}
+use Prim.Native.Nat.{ℕ, ◌+◌, ◌<◌}
 use native.Mathlib.Omega.{arith}
-use lib.ListN.{length, get_or, set, take, length-set}
+use lib.ListN.{length, get_or, set, length-set}
 use lib.Seq.{sets, take_all}
 use Rattle.finite.proofs.Lists.{sets_more}
 use Rattle.laid.specs.Laid.{page}

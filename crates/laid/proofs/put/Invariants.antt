@@ -1,13 +1,8 @@
 -- `laid::put` meets its contract. The invariant: the first i bytes stand at their place.
-use mathlib.Core.Path.{◌≡◌, refl, ◌∙◌, ap}
-use mathlib.Core.List.{List}
-use Prim.Native.Nat.{ℕ, ◌+◌, ◌-◌, ◌≤◌, ◌<◌}
-use native.Mathlib.Omega.{arith}
-use lib.ListN.{length, get_or, set, take, length-set}
-use lib.Seq.{sets, take_all}
-use Rattle.finite.proofs.Lists.{sets_more}
-use Rattle.laid.specs.Laid.{page}
-use Rattle.laid.proofs.Pieces.{behind-room, behind-none}
+use mathlib.Core.Path.{◌≡◌}
+use Prim.Native.Nat.{◌-◌, ◌≤◌}
+use lib.ListN.{length, take}
+use lib.Seq.{sets}
 use Rattle.laid.proofs.put.Given as goal
 
 abbrev pub invariant-loop-i : goal.invariant-loop-i

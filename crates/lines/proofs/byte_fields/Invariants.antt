@@ -1,11 +1,9 @@
 -- `lines::byte_fields` meets its contract. The invariant: the fields of the bytes from i on, behind what is there, make them all.
-use mathlib.Core.Path.{◌≡◌, refl}
+use mathlib.Core.Path.{◌≡◌}
 use Prim.Native.Nat.{◌-◌}
-use native.Mathlib.Omega.{arith}
 use lib.ListN.{length}
-use borrow.Author.Rules.{rules}
 use Rattle.laid.specs.Laid.{page}
-use Rattle.lines.proofs.Whole.{Fields, fields-begin, fields-next, fields-end}
+use Rattle.lines.proofs.Whole.{Fields}
 use Rattle.lines.proofs.byte_fields.Given as goal
 
 abbrev pub invariant-loop-i : goal.invariant-loop-i

@@ -1,6 +1,5 @@
 -- `lines::field` meets its contract.
 use mathlib.Core.Path.{◌∙◌, ap}
-use borrow.Author.Rules.{rules}
 use Rattle.laid.specs.Laid.{Page, behind}
 use Rattle.text.specs.Text.{decimal_of}
 use Rattle.lines.proofs.field.Goals as goal

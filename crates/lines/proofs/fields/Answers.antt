@@ -1,11 +1,8 @@
 -- `lines::fields` meets its contract. The invariant: the fields of the numbers from i on, behind what is there, make them all.
-use mathlib.Core.Path.{◌≡◌, refl}
-use Prim.Native.Nat.{◌-◌}
+use mathlib.Core.Path.{refl}
 use native.Mathlib.Omega.{arith}
-use lib.ListN.{length}
 use borrow.Author.Rules.{rules}
-use Rattle.laid.specs.Laid.{page}
-use Rattle.lines.proofs.Whole.{Fields, fields-begin, fields-next, fields-end}
+use Rattle.lines.proofs.Whole.{fields-begin, fields-next, fields-end}
 use Rattle.lines.proofs.fields.Goals as goal
 
 pub loop-i-init : goal.loop-i-init

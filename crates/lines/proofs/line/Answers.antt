@@ -1,7 +1,6 @@
 -- `lines::line` meets its contract: what it begins with, the fields, the line feed.
 use mathlib.Core.Path.{◌∙◌, ap}
 use mathlib.Core.List.{[], ◌∷◌}
-use borrow.Author.Rules.{rules}
 use Rattle.laid.specs.Laid.{Page, behind}
 use Rattle.lines.specs.Lines.{with_fields, with_line}
 use Rattle.lines.proofs.line.Goals as goal

@@ -1,7 +1,6 @@
 -- `lines::number_line` meets its contract: the number, the fields, the line feed.
 use mathlib.Core.Path.{◌∙◌, ap}
 use mathlib.Core.List.{[], ◌∷◌}
-use borrow.Author.Rules.{rules}
 use Rattle.laid.specs.Laid.{Page, behind}
 use Rattle.lines.specs.Lines.{with_fields, with_line}
 use Rattle.lines.proofs.number_line.Goals as goal

@@ -1,6 +1,5 @@
 -- `lines::refusal_line` meets its contract: the word, two fields, the line feed.
 use native.Mathlib.Omega.{arith}
-use borrow.Author.Rules.{rules}
 use Rattle.laid.proofs.Pieces.{lays_as}
 use Rattle.results.proofs.Placed.{no-room_for, room-for}
 use Rattle.lines.specs.Lines.{refused_word, refusal_line}

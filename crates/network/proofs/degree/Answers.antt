@@ -1,7 +1,6 @@
 -- `network::degree` meets its contract: the size of the neighbour word.
 use mathlib.Core.Path.{◌∙◌, ap}
 use Prim.Native.Nat.{ℕ}
-use borrow.Author.Rules.{rules}
 use Rattle.finite.specs.Sum.{count}
 use Rattle.finite.specs.Sets.{has}
 use Rattle.nodes.specs.Limits.{max_nodes}

@@ -1,10 +1,10 @@
 -- `network::flood` meets its contract. The invariant is the flood over sets, and each turn is one of its visits.
 use mathlib.Core.Path.{◌∙◌, ap}
-use Prim.Native.Nat.{ℕ, ◌^◌, ◌<◌}
+use Prim.Native.Nat.{ℕ}
 use native.Mathlib.Omega.{arith}
 use Rattle.finite.specs.Sets.{has}
 use Rattle.finite.proofs.Sets.{has_0, set_of-has, set_ext}
-use Rattle.graph.proofs.Flood.{Flooding, Visit, unvisited, flood_none, flood_more, flood_less, flood_all}
+use Rattle.graph.proofs.Flood.{Visit, flood_none, flood_more, flood_less, flood_all}
 use Rattle.graph.proofs.Reach.{reach-lt}
 use Rattle.nodes.specs.Limits.{max_nodes}
 use Rattle.nodes.specs.Members.{members}

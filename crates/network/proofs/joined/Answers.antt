@@ -1,7 +1,6 @@
 -- `network::joined` meets its contract: nothing of w is left outside what is reached from its lowest node.
 use mathlib.Core.Path.{refl, ◌∙◌, ap}
 use Prim.Native.Nat.{ℕ}
-use borrow.Author.Rules.{rules}
 use lib.Dec.{eqb}
 use Rattle.finite.specs.Truth.{same}
 use Rattle.finite.specs.Sets.{has}

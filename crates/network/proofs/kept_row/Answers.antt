@@ -1,6 +1,5 @@
 -- `network::kept_row` meets its contract: the row of a node that is not kept is empty, and every other row keeps the nodes that are.
 use mathlib.Core.Path.{sym, ◌∙◌}
-use borrow.Author.Rules.{rules}
 use Rattle.network.proofs.Table.{kept-none, kept-some}
 use Rattle.network.proofs.kept_row.Goals as goal
 

@@ -1,7 +1,6 @@
 -- `network::link` meets its contract: a pair outside the limits adds nothing, any other adds both directions.
 use native.Mathlib.Omega.{arith}
 use lib.ListN.{length-set}
-use borrow.Author.Rules.{rules}
 use Rattle.network.proofs.Links.{joins-ends, joins-ne, link-none, link-one, link-words}
 use Rattle.network.proofs.link.Goals as goal
 

@@ -1,6 +1,5 @@
 -- `network::neighbours` meets its contract: past the end of a list stands the default.
 use mathlib.Core.Path.{sym, ◌∙◌}
-use borrow.Author.Rules.{rules}
 use lib.ListN.{get_or-eq_default}
 use Rattle.network.proofs.neighbours.Goals as goal
 

@@ -1,13 +1,11 @@
 -- `network::restrict` meets its contract. The invariant: rows passed are restricted.
-use mathlib.Core.Path.{◌∙◌, ap}
-use Prim.Native.Nat.{ℕ, ◌-◌, ◌≤◌}
-use native.Mathlib.Omega.{arith}
+use Prim.Native.Nat.{◌-◌, ◌≤◌}
 use Rattle.finite.specs.Sets.{has, set_of}
 use Rattle.graph.specs.Network.{among}
 use Rattle.nodes.specs.Limits.{max_nodes}
 use Rattle.nodes.specs.Members.{members}
-use Rattle.network.specs.Table.{edge_of, table_from}
-use Rattle.finite.proofs.Filling.{Filling, filling_none, filling_more, filling_all}
+use Rattle.network.specs.Table.{edge_of}
+use Rattle.finite.proofs.Filling.{Filling}
 use Rattle.network.proofs.restrict.Given as goal
 
 abbrev pub invariant-loop-u : goal.invariant-loop-u

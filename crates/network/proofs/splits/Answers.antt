@@ -3,7 +3,6 @@ use mathlib.Core.Path.{◌∙◌, ap}
 use mathlib.Core.List.{List}
 use Prim.Native.Nat.{ℕ}
 use native.Mathlib.Omega.{arith}
-use borrow.Author.Rules.{rules}
 use Rattle.finite.specs.Truth.{non}
 use Rattle.finite.specs.Sets.{has}
 use Rattle.finite.proofs.Truth.{not-non}

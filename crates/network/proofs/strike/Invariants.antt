@@ -1,15 +1,9 @@
 -- `network::strike` meets its contract. The invariant: rows passed have lost v, the others are as they were.
-use mathlib.Core.Path.{◌∙◌, ap}
-use Prim.Native.Nat.{ℕ, ◌-◌, ◌≤◌}
-use native.Mathlib.Nat.{le_refl}
-use native.Mathlib.Omega.{arith}
-use lib.ListN.{length, length-set}
-use Rattle.finite.specs.Truth.{◌&◌}
-use Rattle.finite.specs.Sets.{has, set_of}
-use Rattle.nodes.specs.Limits.{max_nodes}
+use Prim.Native.Nat.{◌-◌, ◌≤◌}
+use lib.ListN.{length}
 use Rattle.nodes.specs.Members.{members}
-use Rattle.finite.proofs.Filling.{Filling, filling_none, filling_more}
-use Rattle.network.proofs.Table.{masked, struck, struck-none}
+use Rattle.finite.proofs.Filling.{Filling}
+use Rattle.network.proofs.Table.{masked}
 use Rattle.network.proofs.strike.Given as goal
 
 abbrev pub invariant-loop-u : goal.invariant-loop-u

@@ -1,9 +1,7 @@
 -- `network::table_of` meets its contract. The invariant: the table holds the links of the pairs passed.
-use mathlib.Core.Path.{◌≡◌, sym}
-use Prim.Native.Nat.{◌-◌, ◌/◌, ◌≤◌}
+use mathlib.Core.Path.{sym}
 use native.Mathlib.Omega.{arith}
-use lib.ListN.{length}
-use Rattle.network.proofs.Links.{Linking, linking_none, linking_more, linking_all}
+use Rattle.network.proofs.Links.{linking_none, linking_more, linking_all}
 use Rattle.network.proofs.table_of.Goals as goal
 
 pub loop-i-init : goal.loop-i-init

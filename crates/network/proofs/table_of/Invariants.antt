@@ -1,9 +1,8 @@
 -- `network::table_of` meets its contract. The invariant: the table holds the links of the pairs passed.
-use mathlib.Core.Path.{◌≡◌, sym}
+use mathlib.Core.Path.{◌≡◌}
 use Prim.Native.Nat.{◌-◌, ◌/◌, ◌≤◌}
-use native.Mathlib.Omega.{arith}
 use lib.ListN.{length}
-use Rattle.network.proofs.Links.{Linking, linking_none, linking_more, linking_all}
+use Rattle.network.proofs.Links.{Linking}
 use Rattle.network.proofs.table_of.Given as goal
 
 abbrev pub invariant-loop-i : goal.invariant-loop-i

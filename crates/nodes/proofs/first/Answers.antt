@@ -2,7 +2,6 @@
 use mathlib.Core.Path.{◌∙◌, ap, subst⁻¹}
 use Prim.Native.Nat.{ℕ, ◌%◌, ◌^◌, ◌≤◌}
 use native.Mathlib.Nat.{one-mul, mod-eq_of_lt}
-use borrow.Author.Rules.{rules}
 use lib.Pow.{pow_pos, pow-lt}
 use Rattle.nodes.specs.Limits.{max_nodes}
 use Rattle.nodes.proofs.Words.{first_word, first-all}

@@ -1,6 +1,5 @@
 -- `nodes::has` meets its contract: the code is the definition, and past the word's digits there is no member.
 use mathlib.Core.Path.{refl, sym}
-use borrow.Author.Rules.{rules}
 use Rattle.finite.specs.Sets.{has}
 use Rattle.finite.proofs.Sets.{has_out}
 use Rattle.nodes.specs.Limits.{max_nodes}

@@ -1,5 +1,4 @@
 -- `nodes::one` meets its contract: `1 << v` is the set of v alone, and 0 that of a v that is no node.
-use borrow.Author.Rules.{rules}
 use Rattle.nodes.specs.Limits.{max_nodes}
 use Rattle.nodes.proofs.Words.{one_word, one_out}
 use Rattle.nodes.proofs.one.Goals as goal

@@ -2,7 +2,6 @@
 use mathlib.Core.Path.{◌≡◌, sym, ◌∙◌, ap}
 use Prim.Native.Nat.{ℕ, ◌+◌}
 use native.Mathlib.Omega.{arith}
-use borrow.Author.Rules.{rules}
 use Rattle.finite.specs.Truth.{same}
 use Rattle.finite.specs.Search.{least}
 use Rattle.finite.specs.Sets.{has, set_of, without}

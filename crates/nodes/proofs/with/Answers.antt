@@ -1,6 +1,5 @@
 -- `nodes::with` meets its contract: the word joined with the set of v alone.
 use mathlib.Core.Path.{◌∙◌, ap}
-use borrow.Author.Rules.{rules}
 use lib.Bits.{bit_or}
 use Rattle.finite.specs.Truth.{same}
 use Rattle.nodes.specs.Limits.{max_nodes}

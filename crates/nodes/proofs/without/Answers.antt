@@ -2,7 +2,6 @@
 use mathlib.Core.Path.{◌≡◌, sym, ◌∙◌}
 use Prim.Native.Nat.{◌+◌}
 use native.Mathlib.Omega.{arith}
-use borrow.Author.Rules.{rules}
 use Rattle.finite.specs.Sets.{has, set_of, without}
 use Rattle.nodes.specs.Limits.{max_nodes}
 use Rattle.nodes.proofs.Words.{member-rest, without-none}

@@ -1,7 +1,6 @@
 -- `read_lines::front_size` meets its contract: each test that fails refutes that the text begins with the line.
 use mathlib.Core.Path.{sym, ◌∙◌}
 use native.Mathlib.Omega.{arith}
-use borrow.Author.Rules.{rules}
 use Rattle.finite.proofs.Lists.{alike-eq, eq-alike}
 use Rattle.finite.proofs.Truth.{no_tf}
 use Rattle.read_lines.proofs.Numbers.{bytes-two-iff}

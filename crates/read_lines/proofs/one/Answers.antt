@@ -1,6 +1,5 @@
 -- `read_lines::one` meets its contract: the number read, its line laid, the size.
 use native.Mathlib.Omega.{arith}
-use borrow.Author.Rules.{rules}
 use Rattle.read_lines.proofs.Printed.{one-is}
 use Rattle.read_lines.proofs.one.Goals as goal
 

@@ -1,6 +1,5 @@
 -- `read_lines::two` meets its contract: the first number read and laid, a space, the second behind it, the line feed, the size.
 use native.Mathlib.Omega.{arith}
-use borrow.Author.Rules.{rules}
 use Rattle.read_lines.proofs.Printed.{two_is}
 use Rattle.read_lines.proofs.two.Goals as goal
 

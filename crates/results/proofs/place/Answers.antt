@@ -1,6 +1,5 @@
 -- `results::place` meets its contract: no room, nothing written; else the bytes at the front.
 use native.Mathlib.Omega.{arith}
-use borrow.Author.Rules.{rules}
 use Rattle.laid.proofs.Pieces.{lays-none, lays_more}
 use Rattle.results.proofs.Placed.{no_room, lays-writes}
 use Rattle.results.proofs.place.Goals as goal

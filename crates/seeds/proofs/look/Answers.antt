@@ -1,7 +1,6 @@
 -- `seeds::look` meets its contract.
 use Rattle.finite.proofs.Truth.{eq-same, ne_same}
 use Rattle.seeds.specs.Seed.{look_at}
-use Rattle.std.proofs.Common.{rules}
 use Rattle.seeds.proofs.look.Goals as goal
 
 pub returns-then-messages-eq0 : goal.returns-then-messages-eq0

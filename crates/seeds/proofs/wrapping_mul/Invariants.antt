@@ -1,6 +1,5 @@
 -- `seeds::wrapping_mul` meets its contract. The invariant: the sum and what is left of the product make the whole, modulo 2 ^ 32.
-use Rattle.std.proofs.Common.{◌≡◌, ℕ, ◌+◌, ◌*◌, ◌/◌, ◌%◌, ◌^◌, ◌<◌, sym, ap, ◌∙◌, ap₂, add-zero, mod-eq_of_lt, mul-zero, zero-add, arith}
-use Rattle.seeds.proofs.Doubling.{doubling}
+use Rattle.std.proofs.Common.{◌≡◌, ◌+◌, ◌*◌, ◌%◌, ◌^◌, ◌<◌}
 use Rattle.seeds.proofs.wrapping_mul.Given as goal
 
 abbrev pub invariant-loop-left : goal.invariant-loop-left

@@ -1,6 +1,5 @@
 -- `slices::byte` meets its contract: past the end of a list stands the default.
 use mathlib.Core.Path.{sym}
-use borrow.Author.Rules.{rules}
 use lib.ListN.{get_or-eq_default}
 use Rattle.slices.proofs.byte.Goals as goal
 

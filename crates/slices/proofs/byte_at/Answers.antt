@@ -1,7 +1,6 @@
 -- `slices::byte_at` meets its contract: past the end of a list stands the default.
 use mathlib.Core.Path.{sym}
 use native.Mathlib.Omega.{arith}
-use borrow.Author.Rules.{rules}
 use lib.ListN.{get_or-eq_default}
 use Rattle.slices.proofs.byte_at.Goals as goal
 

@@ -1,6 +1,5 @@
 -- `slices::put` meets its contract: a store past the end changes nothing.
 use mathlib.Core.Path.{sym}
-use borrow.Author.Rules.{rules}
 use lib.Seq.{set_out}
 use Rattle.slices.proofs.put.Goals as goal
 

@@ -4,7 +4,6 @@ use native.Mathlib.Nat.{le_refl}
 use native.Mathlib.Omega.{arith}
 use lib.ListN.{drop_of_length-le}
 use Rattle.finite.proofs.Slices.{part-rest}
-use borrow.Author.Rules.{rules}
 use Rattle.slices.proofs.rest.Goals as goal
 
 pub returns-then-s-n : goal.returns-then-s-n

@@ -1,12 +1,7 @@
 -- `slices::same_bytes` meets its contract. The invariant: the bytes passed are equal.
-use mathlib.Core.Path.{◌≡◌, sym, ap}
-use mathlib.Core.List.{List}
+use mathlib.Core.Path.{◌≡◌}
 use Prim.Native.Nat.{ℕ, ◌-◌, ◌≤◌, ◌<◌}
-use native.Mathlib.Omega.{arith}
-use borrow.Author.Count.{below_more}
 use lib.ListN.{length, get_or}
-use lib.Seq.{ext_get_or}
-use Rattle.finite.proofs.Lists.{eq-alike, ne-alike}
 use Rattle.slices.proofs.same_bytes.Given as goal
 
 abbrev pub invariant-loop-i : goal.invariant-loop-i

@@ -5,7 +5,6 @@ use Rattle.io.specs.Digits.{last_digits}
 use Rattle.laid.specs.Laid.{page, behind}
 use Rattle.text.specs.Text.{decimal_of}
 use Rattle.text.proofs.Decimal.{fewest-places}
-use borrow.Author.Rules.{rules}
 use Rattle.text.proofs.number.Goals as goal
 
 pub returns : goal.returns

@@ -1,10 +1,8 @@
 -- `text::number_in` meets its contract. The invariant: what is read on from n at place i is the number.
-use mathlib.Core.Path.{◌≡◌, refl}
+use mathlib.Core.Path.{refl}
 use mathlib.Core.Logic.{inl, inr}
-use Prim.Native.Nat.{◌-◌}
 use native.Mathlib.Omega.{arith}
-use lib.ListN.{length}
-use Rattle.text.proofs.Reading.{DigitsRead, digits_none, digits_more, digits_stopped, digits_all}
+use Rattle.text.proofs.Reading.{digits_none, digits_more, digits_stopped, digits_all}
 use Rattle.text.proofs.number_in.Goals as goal
 
 pub loop-i-init : goal.loop-i-init

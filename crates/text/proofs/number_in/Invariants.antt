@@ -1,10 +1,8 @@
 -- `text::number_in` meets its contract. The invariant: what is read on from n at place i is the number.
-use mathlib.Core.Path.{◌≡◌, refl}
-use mathlib.Core.Logic.{inl, inr}
+use mathlib.Core.Path.{◌≡◌}
 use Prim.Native.Nat.{◌-◌}
-use native.Mathlib.Omega.{arith}
 use lib.ListN.{length}
-use Rattle.text.proofs.Reading.{DigitsRead, digits_none, digits_more, digits_stopped, digits_all}
+use Rattle.text.proofs.Reading.{DigitsRead}
 use Rattle.text.proofs.number_in.Given as goal
 
 abbrev pub invariant-loop-i : goal.invariant-loop-i
