@@ -20,8 +20,8 @@ moved_determined = step_determined
 
 pub start_determined : (old : Record) (b list : List ℕ) (v v' : Verdict) (r r' : Record) → beside v r ≡ start_of old b list → beside v' r' ≡ start_of old b list → (v ≡ v') × (r ≡ r')
 start_determined old b list v v' r r' e f =
-    let same = by_value.start-determined old b list (beside v r) (beside v' r') e f in
+    let same = by_value.start_determined old b list (beside v r) (beside v' r') e f in
     (ap (λ (s : Started). s.verdict) same, ap (λ (s : Started). s.«record») same)
 
 pub started_determined : (old : Record) (b list : List ℕ) (x y : Started) → x ≡ start_of old b list → y ≡ start_of old b list → x ≡ y
-started_determined = by_value.start-determined
+started_determined = by_value.start_determined
