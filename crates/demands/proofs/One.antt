@@ -37,12 +37,10 @@ use Rattle.sheets.specs.Faults.{sheet_fault}
 use Rattle.sheets.specs.Verdicts.{OfSheet}
 use Rattle.sheets.specs.Promises.{Cables, Sheets}
 use Rattle.sheets.proofs.Meaning.{sheet_means}
-use Rattle.hops.specs.declared.HopAnswer.{HopAnswer}
 use Rattle.hops.specs.declared.HopAnswer.TheVariants as hop
 use Rattle.messages.specs.declared.Record.{Record}
 use Rattle.messages.specs.declared.Stepped.{Stepped}
 use Rattle.messages.specs.declared.Answer.{Answer}
-use Rattle.messages.specs.declared.Answer.TheVariants as move
 use Rattle.messages.specs.Step.{with}
 use Rattle.messages.specs.Runs.{successful}
 use Rattle.messages.proofs.Answers.{unchanged, move-refused-iff}

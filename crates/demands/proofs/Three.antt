@@ -28,12 +28,12 @@ use Rattle.demands.specs.Tries.{tried, succeeded, ShortestPaths, sum_over, Drain
 module _ {n : ℕ} {edge : ℕ → ℕ → Bool} {labels free falling list : List ℕ} (tabled : Tabled n edge labels free falling) (listed : Listed n list) where
   tried-run : {r : Record} → Reached n labels free falling list r → (tries : List ℕ) → Reached n labels free falling list (tried r tries)
   tried-run run [] = run
-  tried-run run (m ∷ tries) = tried-run (move m run) tries
+  tried-run {r = r} run (m ∷ tries) = tried-run {r = (step_of r m).«record»} (move m run) tries
 
   tried-count : {r : Record} → Reached n labels free falling list r → (tries : List ℕ) → (tried r tries).moves ≡ r.moves + succeeded r tries
   tried-count {r} run [] = omega arith
   tried-count {r} run (m ∷ tries) =
-      let i = tried-count (move m run) tries in
+      let i = tried-count {r = (step_of r m).«record»} (move m run) tries in
       bcase (successful (step_of r m).answer)
       (λ t. let w = when_true 1 t in let e = counts-one tabled listed run m t in omega arith)
       (λ t. let w = when_false 1 t in let e = ap (λ (x : Record). x.moves) (unchanged r m t) in omega arith)

@@ -46,7 +46,7 @@ module _ (c : Cabling) (g : Good c) where
   pub rule_unique : {labels free falling : List ℕ} → ByTheRule c labels free falling → (labels ≡ labels_for c) × (free ≡ rows_for c true) × (falling ≡ rows_for c false)
   rule_unique {labels} {free} {falling} r =
       let e : labels ≡ labels_for c =
-      ext_get_or 0 labels (labels_for c) (r.size ∙ sym (labels_length c)) (λ v l. let s = r.size in good-labels_unique g (label_in labels) r.by-rule v (omega arith)) in
+      ext_get_or 0 labels (labels_for c) (r.size ∙ sym (labels_length c)) (λ v l. let s = r.size in good-labels_unique g (label_in labels) r.by_rule v (omega arith)) in
       (e, free-rows_unique g (rw e at r.free-rows), falling-rows_unique g (rw e at r.falling-rows))
 
   -- RULES 2.2: "Every pair of nodes has a lawful path, and a message that follows its entries walks a shortest one."

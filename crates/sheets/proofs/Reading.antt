@@ -10,7 +10,6 @@ use Rattle.finite.specs.Truth.{below}
 use Rattle.finite.proofs.Truth.{bcase, below-lt, below-le}
 use Rattle.finite.proofs.Slices.{drop-next}
 use Rattle.refusal.specs.declared.Refusal.TheVariants as refusal
-use Rattle.refusal.specs.declared.Verdict.{Verdict}
 use Rattle.refusal.specs.declared.Verdict.TheVariants.{Fine, Fault}
 use Rattle.refusal.proofs.Verdicts.{fine-fault}
 use Rattle.laid.specs.Laid.{Page, page, behind}

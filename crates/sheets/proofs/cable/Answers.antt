@@ -1,7 +1,6 @@
 -- `sheets::cable` meets its contract: the first line, the lines of links, and the links image of what they tell.
 use native.Mathlib.Omega.{arith}
 use lib.Dec.{lit≤}
-use borrow.Author.Rules.{rules}
 use Rattle.results.proofs.Placed.{fault-writes}
 use Rattle.sheets.proofs.Cases.{cable_none, cable_bad, cable_writes}
 use Rattle.sheets.proofs.cable.Goals as goal

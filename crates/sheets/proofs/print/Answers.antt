@@ -1,8 +1,8 @@
 -- `sheets::print` meets its contract. The invariant: with the lines of the pairs from p on behind it, what is laid is the sheet.
-use mathlib.Core.Path.{◌≡◌, refl, ◌∙◌, ap}
+use mathlib.Core.Path.{refl, ◌∙◌, ap}
 use native.Mathlib.Omega.{arith}
 use borrow.Author.Rules.{rules}
-use Rattle.laid.specs.Laid.{Page, page}
+use Rattle.laid.specs.Laid.{Page}
 use Rattle.sheets.specs.Held.{with_links}
 use Rattle.sheets.proofs.Printing.{printed_begin, printed_next, printed_end}
 use Rattle.sheets.proofs.print.Goals as goal

@@ -1,12 +1,9 @@
 -- `sheets::print` meets its contract. The invariant: with the lines of the pairs from p on behind it, what is laid is the sheet.
-use mathlib.Core.Path.{◌≡◌, refl, ◌∙◌, ap}
+use mathlib.Core.Path.{◌≡◌}
 use Prim.Native.Nat.{◌-◌, ◌/◌}
-use native.Mathlib.Omega.{arith}
 use lib.ListN.{length}
-use borrow.Author.Rules.{rules}
-use Rattle.laid.specs.Laid.{Page, page}
-use Rattle.sheets.specs.Held.{with_links}
-use Rattle.sheets.proofs.Printing.{Printed, printed_begin, printed_next, printed_end}
+use Rattle.laid.specs.Laid.{page}
+use Rattle.sheets.proofs.Printing.{Printed}
 use Rattle.sheets.proofs.print.Given as goal
 
 abbrev pub invariant-loop-p : goal.invariant-loop-p

@@ -1,7 +1,6 @@
 -- `sheets::sheet` meets its contract: the checks, the lines laid in a buffer of its own, and their bytes placed.
 use mathlib.Core.Path.{sym, ◌∙◌}
 use lib.Dec.{lit≤}
-use borrow.Author.Rules.{rules}
 use Rattle.sheets.proofs.Cases.{sheet-refused, sheet-writes}
 use Rattle.sheets.proofs.sheet.Goals as goal
 

@@ -1,8 +1,8 @@
 -- `sheets::links::read` meets its contract. The invariant: what is left of the text tells what all of it tells, with the pairs that were read in front.
 use mathlib.Core.Path.{◌≡◌, refl, ◌∙◌, ap}
-use Prim.Native.Nat.{◌+◌, ◌-◌}
+use Prim.Native.Nat.{◌+◌}
 use native.Mathlib.Omega.{arith}
-use lib.ListN.{length, drop}
+use lib.ListN.{drop}
 use borrow.Author.Rules.{rules}
 use Rattle.laid.specs.Laid.{page}
 use Rattle.read_lines.specs.Numbers.{two_in}
