@@ -7,6 +7,7 @@ pub mod Total
 pub mod Next
 pub mod Tried
 pub mod After
+pub mod Onward
 pub mod Reached
 pub mod Answers
 pub mod InOut
