@@ -2,6 +2,7 @@ pub mod Printing
 pub mod Reading
 pub mod Lines
 pub mod Sheets
+pub mod Rows
 pub mod Meaning
 pub mod Cases
 pub mod Calls

@@ -23,6 +23,7 @@ use Rattle.sheets.specs.Faults.{lines_fault, sheet_fault}
 use Rattle.sheets.specs.Verdicts.{LineOn, OfLines, all-fine, bad_line, OfSheet, of_lines, of_cabling}
 use Rattle.sheets.proofs.Lines.{Judged, judged_fine, judged_bad, lines_judged, lines-missing}
 use Rattle.sheets.proofs.Sheets.{told-sheet, sheet-fault}
+use Rattle.sheets.proofs.Rows.{row-lines, row-cabling}
 
 -- no list of numbers prints nothing
 no_line : (k : ℕ) → IsLine k [] → ⊥
@@ -61,8 +62,8 @@ module _ (s : List ℕ) where
   row = go (lines_fault (lines_of s)) refl
     where
       go : (v : Verdict) → lines_fault (lines_of s) ≡ v → OfSheet s (sheet_fault s)
-      go Fine e = let (t, q) = told-sheet s e in rw (then-fine (fault_of (cabling_on s)) e) (of_cabling t q ((fault_means (cabling_on s) _).0 refl))
-      go (Fault r) e = rw (then-fault (fault_of (cabling_on s)) e) (of_lines ((lines_means _ _).0 e))
+      go Fine e = let (t, q) = told-sheet s e in rw (then-fine (fault_of (cabling_on s)) e) (row-cabling s t q)
+      go (Fault r) e = rw (then-fault (fault_of (cabling_on s)) e) (row-lines s ((lines_means _ _).0 e))
 
   given : {v : Verdict} → OfSheet s v → sheet_fault s ≡ v
   unfolding sheet_fault

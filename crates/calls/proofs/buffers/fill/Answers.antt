@@ -1,9 +1,7 @@
 -- `calls::fill` is safe and ends.
-use mathlib.Core.Path.{◌≡◌, ◌∙◌}
-use Prim.Native.Nat.{◌-◌}
+use mathlib.Core.Path.{◌∙◌}
 use native.Mathlib.Omega.{arith}
-use lib.ListN.{length, length-set}
-use borrow.Author.Rules.{rules}
+use lib.ListN.{length-set}
 use Rattle.calls.proofs.buffers.fill.Goals as goal
 
 pub loop-i-init : goal.loop-i-init

@@ -1,9 +1,7 @@
 -- `calls::fill` is safe and ends.
-use mathlib.Core.Path.{◌≡◌, ◌∙◌}
+use mathlib.Core.Path.{◌≡◌}
 use Prim.Native.Nat.{◌-◌}
-use native.Mathlib.Omega.{arith}
-use lib.ListN.{length, length-set}
-use borrow.Author.Rules.{rules}
+use lib.ListN.{length}
 use Rattle.calls.proofs.buffers.fill.Given as goal
 
 abbrev pub invariant-loop-i : goal.invariant-loop-i

@@ -1,8 +1,5 @@
 -- `calls::rounds` is safe and ends: each round has bytes.
-use Prim.Native.Nat.{◌≤◌, ◌-◌}
 use native.Mathlib.Omega.{arith}
-use lib.ListN.{length}
-use borrow.Author.Rules.{rules}
 use Rattle.calls.proofs.machines.rounds.Goals as goal
 
 pub loop-at-init : goal.loop-at-init

@@ -1,8 +1,6 @@
 -- `calls::rounds` is safe and ends: each round has bytes.
 use Prim.Native.Nat.{◌≤◌, ◌-◌}
-use native.Mathlib.Omega.{arith}
 use lib.ListN.{length}
-use borrow.Author.Rules.{rules}
 use Rattle.calls.proofs.machines.rounds.Given as goal
 
 abbrev pub invariant-loop-at : goal.invariant-loop-at

@@ -1,8 +1,5 @@
 -- `calls::stepped` is safe and ends.
-use Prim.Native.Nat.{◌≤◌, ◌-◌, ◌/◌}
 use native.Mathlib.Omega.{arith}
-use lib.ListN.{length}
-use borrow.Author.Rules.{rules}
 use Rattle.calls.proofs.machines.stepped.Goals as goal
 
 pub loop-i-init : goal.loop-i-init

@@ -1,8 +1,6 @@
 -- `calls::stepped` is safe and ends.
 use Prim.Native.Nat.{◌≤◌, ◌-◌, ◌/◌}
-use native.Mathlib.Omega.{arith}
 use lib.ListN.{length}
-use borrow.Author.Rules.{rules}
 use Rattle.calls.proofs.machines.stepped.Given as goal
 
 abbrev pub invariant-loop-i : goal.invariant-loop-i

@@ -1,8 +1,5 @@
 -- `calls::whole` is safe and ends: each round has bytes.
-use Prim.Native.Nat.{◌≤◌, ◌-◌}
 use native.Mathlib.Omega.{arith}
-use lib.ListN.{length}
-use borrow.Author.Rules.{rules}
 use Rattle.calls.proofs.machines.whole.Goals as goal
 
 pub slice_bounds-size-count : goal.slice_bounds-size-count

@@ -1,8 +1,6 @@
 -- `calls::whole` is safe and ends: each round has bytes.
 use Prim.Native.Nat.{◌≤◌, ◌-◌}
-use native.Mathlib.Omega.{arith}
 use lib.ListN.{length}
-use borrow.Author.Rules.{rules}
 use Rattle.calls.proofs.machines.whole.Given as goal
 
 abbrev pub invariant-loop-at : goal.invariant-loop-at

@@ -1,7 +1,5 @@
 -- `calls::walked` is safe and ends.
-use Prim.Native.Nat.{◌≤◌, ◌-◌}
 use native.Mathlib.Omega.{arith}
-use borrow.Author.Rules.{rules}
 use Rattle.calls.proofs.tables.walked.Goals as goal
 
 pub loop-k-init : goal.loop-k-init

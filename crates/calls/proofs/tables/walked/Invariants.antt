@@ -1,7 +1,5 @@
 -- `calls::walked` is safe and ends.
 use Prim.Native.Nat.{◌≤◌, ◌-◌}
-use native.Mathlib.Omega.{arith}
-use borrow.Author.Rules.{rules}
 use Rattle.calls.proofs.tables.walked.Given as goal
 
 abbrev pub invariant-loop-k : goal.invariant-loop-k

@@ -1,8 +1,5 @@
 -- `findings::cases::many` is safe and ends.
-use mathlib.Core.Path.{◌≡◌}
-use Prim.Native.Nat.{◌≤◌, ◌-◌}
 use native.Mathlib.Omega.{arith}
-use lib.ListN.{length}
 use borrow.Author.Rules.{rules}
 use Rattle.findings.proofs.cases.many.Goals as goal
 

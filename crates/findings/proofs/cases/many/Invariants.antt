@@ -1,9 +1,7 @@
 -- `findings::cases::many` is safe and ends.
 use mathlib.Core.Path.{◌≡◌}
 use Prim.Native.Nat.{◌≤◌, ◌-◌}
-use native.Mathlib.Omega.{arith}
 use lib.ListN.{length}
-use borrow.Author.Rules.{rules}
 use Rattle.findings.proofs.cases.many.Given as goal
 
 abbrev pub invariant-loop-k : goal.invariant-loop-k

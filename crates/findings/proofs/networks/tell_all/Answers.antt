@@ -1,7 +1,5 @@
 -- `findings::networks::tell_all` is safe and ends: each entry has bytes.
-use Prim.Native.Nat.{◌≤◌, ◌-◌}
 use native.Mathlib.Omega.{arith}
-use borrow.Author.Rules.{rules}
 use Rattle.findings.proofs.networks.tell_all.Goals as goal
 
 pub loop-at-smaller : goal.loop-at-smaller

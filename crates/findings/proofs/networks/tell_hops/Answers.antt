@@ -1,8 +1,5 @@
 -- `findings::networks::tell_hops` is safe and ends.
-use Prim.Native.Nat.{◌≤◌, ◌-◌, ◌/◌}
 use native.Mathlib.Omega.{arith}
-use lib.ListN.{length}
-use borrow.Author.Rules.{rules}
 use Rattle.findings.proofs.networks.tell_hops.Goals as goal
 
 pub loop-i-init : goal.loop-i-init

@@ -1,8 +1,6 @@
 -- `findings::networks::tell_hops` is safe and ends.
 use Prim.Native.Nat.{◌≤◌, ◌-◌, ◌/◌}
-use native.Mathlib.Omega.{arith}
 use lib.ListN.{length}
-use borrow.Author.Rules.{rules}
 use Rattle.findings.proofs.networks.tell_hops.Given as goal
 
 abbrev pub invariant-loop-i : goal.invariant-loop-i

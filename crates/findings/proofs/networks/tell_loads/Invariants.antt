@@ -1,7 +1,5 @@
 -- `findings::networks::tell_loads` is safe and ends: each list has a byte for its length.
 use Prim.Native.Nat.{◌≤◌, ◌-◌}
-use native.Mathlib.Omega.{arith}
-use borrow.Author.Rules.{rules}
 use Rattle.findings.proofs.networks.tell_loads.Given as goal
 
 abbrev pub invariant-loop-at : goal.invariant-loop-at
