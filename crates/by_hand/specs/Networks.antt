@@ -1,8 +1,7 @@
 -- RULES 11.1: the constant table of the networks worked by hand.
 use Rattle.std.specs.Prelude.{List, [], ◌∷◌, ℕ}
+use Rattle.hops.specs.Hop.{HopAnswer, Next, NoWay}
 use Rattle.cabling.specs.Cabling.{Cabling, cabled}
-use Rattle.hops.specs.declared.HopAnswer.{HopAnswer}
-use Rattle.hops.specs.declared.HopAnswer.TheVariants.{Next, NoWay}
 use Rattle.messages.specs.declared.Answer.{Answer}
 use Rattle.messages.specs.declared.Answer.TheVariants.{Moved, Blocked, Delivered}
 

@@ -1,6 +1,7 @@
 -- Demand 1 (RULES 2.1): each call keeps it. Two outcomes that its promise allows are equal, a refusal is given exactly when its row says, and a refused call
 -- leaves what was lent.
 use mathlib.Core.Path.{◌≡◌, refl, sym, ◌∙◌, ap}
+use Rattle.std.specs.Prelude.{Err}
 use mathlib.Core.List.{List}
 use mathlib.Core.Logic.{◌↔◌, inl, inr}
 use Prim.Native.Nat.{ℕ}
@@ -37,7 +38,6 @@ use Rattle.sheets.specs.Faults.{sheet_fault}
 use Rattle.sheets.specs.Verdicts.{OfSheet}
 use Rattle.sheets.specs.Promises.{Cables, Sheets}
 use Rattle.sheets.proofs.Meaning.{sheet_means}
-use Rattle.hops.specs.declared.HopAnswer.TheVariants as hop
 use Rattle.messages.specs.declared.Record.{Record}
 use Rattle.messages.specs.declared.Stepped.{Stepped}
 use Rattle.messages.specs.declared.Answer.{Answer}
@@ -179,8 +179,8 @@ hop-keeps = record {
         λ e.
             let (number, p) = hop_refusal free falling n node class labels destination r (sym x ∙ e) in
             let q : r ≡ Unknown 0 = refusal_unique r (Unknown 0) number p in
-            (m.0 (sym x ∙ e ∙ ap hop.Refused q), q),
-        λ o. x ∙ m.1 o.0 ∙ ap hop.Refused (sym o.1),
+            (m.0 (sym x ∙ e ∙ ap Err q), q),
+        λ o. x ∙ m.1 o.0 ∙ ap Err (sym o.1),
       ));
   untouched = λ i s t a r x e. refl;
 }

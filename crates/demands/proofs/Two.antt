@@ -11,8 +11,7 @@ use Rattle.lawful.specs.Turn.{label_in}
 use Rattle.lawful.specs.Path.{LawfulTo, Shortest}
 use Rattle.cabling.specs.Cabling.{Cabling, cabled, Good, links}
 use Rattle.cabling.specs.Faults.{fault_of}
-use Rattle.hops.specs.declared.HopAnswer.{HopAnswer}
-use Rattle.hops.specs.Hop.{walk_by}
+use Rattle.hops.specs.Hop.{HopAnswer, walk_by}
 use Rattle.fabric.specs.Fabric.{labels_for, label_for, rows_for, route_for}
 use Rattle.fabric.proofs.Labels.{labels_length, good-by_rule, good-labels_unique}
 use Rattle.fabric.proofs.Rows.{good-free-rows, good-falling-rows, free-rows_unique, falling-rows_unique}

@@ -1,6 +1,6 @@
 -- Demand 1 in words (RULES 2.1): of each call its promise, which of its answers are refusals, and the rows of RULES 9.1 for them. A lent buffer or record is
 -- what it was before and after.
-use Rattle.std.specs.Prelude.{◌≡◌, Bool, List, [], ◌↔◌, ◌⊎◌, ℕ, ◌≤◌, ◌<◌, length}
+use Rattle.std.specs.Prelude.{◌≡◌, Bool, List, [], ◌↔◌, ◌⊎◌, ℕ, ◌≤◌, ◌<◌, length, Err}
 use Rattle.refusal.specs.Number.{number_of, place_of}
 use Rattle.refusal.specs.declared.Refusal.{Refusal}
 use Rattle.refusal.specs.declared.Refusal.TheVariants.{Short, Unknown}
@@ -9,10 +9,8 @@ use Rattle.refusal.specs.declared.Verdict.TheVariants.{Fine, Fault}
 use Rattle.cabling.specs.Cabling.{Cabling}
 use Rattle.cabling.specs.Faults.{fault_of}
 use Rattle.cabling.specs.Verdicts.{Means}
-use Rattle.hops.specs.declared.HopAnswer.{HopAnswer}
-use Rattle.hops.specs.declared.HopAnswer.TheVariants as hop
 use Rattle.hops.specs.Row.{RowFault, row_in}
-use Rattle.hops.specs.Hop.{hop_in, HopFault}
+use Rattle.hops.specs.Hop.{HopAnswer, hop_in, HopFault}
 use Rattle.format.specs.Contents.{links_kinds, full_kinds, nodes_in, pairs_in}
 use Rattle.format.specs.declared.Entry.{Entry}
 use Rattle.contents.specs.declared.Reader.{Reader}
@@ -134,7 +132,7 @@ abbrev pub RowRows : InTables → Unit {0} → Refusal → Type 0
 RowRows i s r = RowFault i.0 i.1 i.2 i.3 i.4 × (r ≡ Unknown 0)
 
 abbrev pub NotHops : HopAnswer → Refusal → Type 0
-NotHops a r = a ≡ hop.Refused r
+NotHops a r = a ≡ Err r
 
 -- the labels before them, and a destination behind
 abbrev pub Hop : List ℕ × InTables × ℕ → Unit {0} → HopAnswer → Unit {0} → Type 0

@@ -11,10 +11,8 @@ use Rattle.lawful.proofs.Run.{Run}
 use Rattle.lawful.proofs.Paths.{WayTo, way-run}
 use Rattle.cabling.specs.Cabling.{Cabling, Good, links}
 use Rattle.hops.specs.Row.{row_in}
-use Rattle.hops.specs.Hop.{hop_in, hop_within, walk_by}
+use Rattle.hops.specs.Hop.{HopAnswer, Next, NoWay, hop_in, hop_within, walk_by}
 use Rattle.hops.specs.Tabled.{class_of}
-use Rattle.hops.specs.declared.HopAnswer.{HopAnswer}
-use Rattle.hops.specs.declared.HopAnswer.TheVariants.{Next, NoWay}
 use Rattle.hops.proofs.Leads.{row-long, row-entry, within_fronts, hop-entry, hop-none, hop_home, walk-route}
 use Rattle.fabric.specs.Fabric.{labels_for, label_for, rows_for, route_for, fabric_of}
 use Rattle.fabric.proofs.Labels.{good-climbing}

@@ -4,6 +4,7 @@ use mathlib.Core.Bool.{true, false}
 use mathlib.Core.List.{List, [], ◌∷◌}
 use Prim.Native.Nat.{ℕ, zero, suc, ◌*◌, ◌≤◌, ◌<◌, min}
 use native.Mathlib.Omega.{arith}
+use Rattle.std.specs.Prelude.{Some, None, Ok, Err}
 use lib.ListN.{length, get_or, take}
 use Rattle.finite.specs.Truth.{◌or◌, same, below}
 use Rattle.finite.proofs.Truth.{no_tf, bcase, refute, both, and_l, and_r, or_l, or_r, or_false, same-eq, eq-same, ne_same, same_refl, below-lt, lt-below, le_below}
@@ -11,10 +12,9 @@ use Rattle.lawful.specs.Turn.{label_in}
 use Rattle.lawful.specs.Entry.{none}
 use Rattle.nodes.specs.Limits.{max_nodes}
 use Rattle.refusal.specs.declared.Refusal.TheVariants.{Unknown}
-use Rattle.hops.specs.declared.HopAnswer.{HopAnswer}
-use Rattle.hops.specs.declared.HopAnswer.TheVariants.{Next, NoWay, Refused}
+use Rattle.hops.specs.declared.Hop.{Hop}
 use Rattle.hops.specs.Row.{row_known, row_in}
-use Rattle.hops.specs.Hop.{stored_in, class_after, onward_of, hop_known, hop_in, hop_within, has_next, walk_by}
+use Rattle.hops.specs.Hop.{HopAnswer, Next, NoWay, stored_in, class_after, onward_of, hop_known, hop_in, hop_within, has_next, walk_by}
 use Rattle.hops.proofs.Lookup.{row-refused, row-length}
 
 -- ---- the class after it
@@ -47,7 +47,7 @@ module _ (labels : List ℕ) (n node class destination next : ℕ) where
   onward-none e = rw (eq-same e, onward_of)
 
   module _ (some : next ≡ none → ⊥) where
-    pub onward_past : n ≤ next → onward_of labels n node class destination next ≡ Refused (Unknown 0)
+    pub onward_past : n ≤ next → onward_of labels n node class destination next ≡ Err (Unknown 0)
     unfolding onward_of
     onward_past l = rw (ne_same some, onward_of, le_below l)
 
@@ -82,7 +82,7 @@ module _ (labels free falling : List ℕ) (n node class destination : ℕ) where
   unfolding hop_in
   hop-known k = rw (lent-known k, hop_in)
 
-  pub hop-unknown : (Lent labels free falling n node class destination → ⊥) → hop_in labels free falling n node class destination ≡ Refused (Unknown 0)
+  pub hop-unknown : (Lent labels free falling n node class destination → ⊥) → hop_in labels free falling n node class destination ≡ Err (Unknown 0)
   unfolding hop_in
   hop-unknown fault = rw (refute (hop_known labels free falling n node class destination) (λ t. fault (known-lent t)), hop_in)
 
@@ -92,7 +92,7 @@ module _ (labels free falling : List ℕ) (n node class destination : ℕ) where
 
   module _ {part : List ℕ} (e : part ≡ row_in free falling n node class) where
     -- past the row's end: the row is refused, or the destination is no node
-    pub part_past : length part ≤ destination → hop_in labels free falling n node class destination ≡ Refused (Unknown 0)
+    pub part_past : length part ≤ destination → hop_in labels free falling n node class destination ≡ Err (Unknown 0)
     part_past l = hop-unknown (λ k. let size = ap length e ∙ row-length free falling n node class k.row in let b = k.there in omega arith)
 
     pub part-onward : destination < length part → length labels ≡ n
@@ -114,11 +114,11 @@ fronts_within labels free falling n node class destination e p q r h = rw (← e
 
 -- ---- by its variant
 
--- an answer that is not the first of the variants names no node
-pub other_none : (a : HopAnswer) → ((next class : ℕ) → a ≡ Next next class → ⊥) → has_next a ≡ false
-other_none (Next next class) h = absurd (h next class refl)
-other_none NoWay h = refl
-other_none (Refused r) h = refl
+-- an answer that is no hop names no node
+pub other_none : (a : HopAnswer) → ((hop : Hop) → a ≡ Ok (Some hop) → ⊥) → has_next a ≡ false
+other_none (Ok (Some hop)) h = absurd (h hop refl)
+other_none (Ok None) h = refl
+other_none (Err r) h = refl
 
 -- ---- a walk by its answers
 

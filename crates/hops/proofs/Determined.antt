@@ -3,8 +3,7 @@ use mathlib.Core.Path.{◌≡◌, sym, ◌∙◌}
 use mathlib.Core.List.{List}
 use Prim.Native.Nat.{ℕ}
 use Rattle.hops.specs.Row.{row_in}
-use Rattle.hops.specs.Hop.{hop_in, hop_within}
-use Rattle.hops.specs.declared.HopAnswer.{HopAnswer}
+use Rattle.hops.specs.Hop.{HopAnswer, hop_in, hop_within}
 
 module _ (free falling : List ℕ) (n node class : ℕ) where
   pub row_determined : (r s : List ℕ) → r ≡ row_in free falling n node class → s ≡ row_in free falling n node class → r ≡ s

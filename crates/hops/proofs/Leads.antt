@@ -18,10 +18,8 @@ use Rattle.lawful.proofs.Climb.{climbing-run}
 use Rattle.lawful.proofs.Entries.{entry-self, entry-none-iff}
 use Rattle.lawful.proofs.Routes.{Nearer, entry-nearer, follow-here, follow-there}
 use Rattle.nodes.specs.Limits.{max_nodes}
-use Rattle.hops.specs.declared.HopAnswer.{HopAnswer}
-use Rattle.hops.specs.declared.HopAnswer.TheVariants.{Next, NoWay}
 use Rattle.hops.specs.Row.{row_known, table_in, row_in}
-use Rattle.hops.specs.Hop.{class_after, onward_of, hop_in, hop_within, walk_by}
+use Rattle.hops.specs.Hop.{HopAnswer, Next, NoWay, class_after, onward_of, hop_in, hop_within, walk_by}
 use Rattle.hops.specs.Tabled.{class_of, Tabled}
 use Rattle.hops.proofs.Lookup.{faultless_known, row-known, row-length, free-table, falling-table}
 use Rattle.hops.proofs.Cases.{class-here, class-fall, class-free, onward-none, onward-next, hop-known, walk_here, walk-there}

@@ -6,6 +6,7 @@ use mathlib.Core.List.{List, []}
 use mathlib.Core.Logic.{◌⊎◌, inl, inr, ⊎_elim, ◌↔◌}
 use Prim.Native.Nat.{ℕ, ◌+◌, ◌*◌, ◌≤◌, ◌<◌}
 use native.Mathlib.Omega.{arith}
+use Rattle.std.specs.Prelude.{Err}
 use lib.ListN.{length, get_or}
 use lib.Seq.{get_or-take, get_or-drop}
 use Rattle.finite.specs.Truth.{same, below}
@@ -16,9 +17,7 @@ use Rattle.refusal.specs.Number.{number_of, place_of}
 use Rattle.refusal.specs.declared.Refusal.{Refusal}
 use Rattle.refusal.specs.declared.Refusal.TheVariants.{Unknown}
 use Rattle.hops.specs.Row.{RowFault, row_known, table_in, row_in}
-use Rattle.hops.specs.Hop.{stored_in, class_after, onward_of, hop_in, HopFault, of_row, no-destination, labels-size, no-next, ClassThen, as_it_came, is-falling, is_free, OfHop, refused, no_way, next}
-use Rattle.hops.specs.declared.HopAnswer.{HopAnswer}
-use Rattle.hops.specs.declared.HopAnswer.TheVariants.{Refused}
+use Rattle.hops.specs.Hop.{HopAnswer, stored_in, class_after, onward_of, hop_in, HopFault, of_row, no-destination, labels-size, no-next, ClassThen, as_it_came, is-falling, is_free, OfHop, refused, no_way, next}
 use Rattle.hops.proofs.Lookup.{known_faultless, fault-unknown, unknown-fault, row-refused, row-known, row-length}
 use Rattle.hops.proofs.Cases.{class-here, class-falling, class-fall, class-free, onward-none, onward_past, onward-next, Lent, hop-known, hop-unknown, lent_or_not}
 
@@ -77,7 +76,7 @@ module _ (free falling : List ℕ) (n node class : ℕ) where
     sound k b (labels-size d) = d k.labelled
     sound k b (no-next l d) = ⊎_elim d (λ k. omega arith) b
 
-    faulty-hop : HopFault labels free falling n node class destination → hop_in labels free falling n node class destination ≡ Refused (Unknown 0)
+    faulty-hop : HopFault labels free falling n node class destination → hop_in labels free falling n node class destination ≡ Err (Unknown 0)
     faulty-hop f =
         bcase (below byte n) (λ b. unknown (λ k. sound k (inr (below-lt _ _ b)) f))
         (λ b.
@@ -87,7 +86,7 @@ module _ (free falling : List ℕ) (n node class : ℕ) where
         (λ k. hop-known labels free falling n node class destination k ∙ onward_past labels n node class destination byte (same-ne _ _ e) (below-le _ _ b))
         unknown))
       where
-        unknown : (Lent labels free falling n node class destination → ⊥) → hop_in labels free falling n node class destination ≡ Refused (Unknown 0)
+        unknown : (Lent labels free falling n node class destination → ⊥) → hop_in labels free falling n node class destination ≡ Err (Unknown 0)
         unknown = hop-unknown labels free falling n node class destination
 
     node-low : (HopFault labels free falling n node class destination → ⊥) → (byte ≡ none → ⊥) → byte < n
@@ -145,16 +144,16 @@ module _ (free falling : List ℕ) (n node class : ℕ) where
     hop_means a = (λ e. rw (← e) answer-is, answer-from)
 
     -- a refusal is number 10 at place 0
-    pub hop_refusal : (r : Refusal) → hop_in labels free falling n node class destination ≡ Refused r → (number_of r ≡ 10) × (place_of r ≡ 0)
-    hop_refusal r e = of_number r ((hop_means (Refused r)).0 e)
+    pub hop_refusal : (r : Refusal) → hop_in labels free falling n node class destination ≡ Err r → (number_of r ≡ 10) × (place_of r ≡ 0)
+    hop_refusal r e = of_number r ((hop_means (Err r)).0 e)
       where
-        of_number : (r : Refusal) → OfHop labels free falling n node class destination (Refused r) → (number_of r ≡ 10) × (place_of r ≡ 0)
+        of_number : (r : Refusal) → OfHop labels free falling n node class destination (Err r) → (number_of r ≡ 10) × (place_of r ≡ 0)
         of_number _ (refused f) = (refl, refl)
 
-    pub hop-refused-iff : (hop_in labels free falling n node class destination ≡ Refused (Unknown 0)) ↔ HopFault labels free falling n node class destination
-    hop-refused-iff = (λ e. fault ((hop_means (Refused (Unknown 0))).0 e), faulty-hop)
+    pub hop-refused-iff : (hop_in labels free falling n node class destination ≡ Err (Unknown 0)) ↔ HopFault labels free falling n node class destination
+    hop-refused-iff = (λ e. fault ((hop_means (Err (Unknown 0))).0 e), faulty-hop)
       where
-        fault : OfHop labels free falling n node class destination (Refused (Unknown 0)) → HopFault labels free falling n node class destination
+        fault : OfHop labels free falling n node class destination (Err (Unknown 0)) → HopFault labels free falling n node class destination
         fault (refused f) = f
 
 -- RULES 7.5: "Of the bytes of the tables hop looks at that one alone.": other tables of the same lengths with the same byte there give the same answer

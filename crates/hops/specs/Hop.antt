@@ -1,13 +1,23 @@
 -- RULES 7.5: what the hop call answers. Labels and tables are any three lists of bytes.
-use Rattle.std.specs.Prelude.{◌≡◌, Bool, true, false, List, [], ◌∷◌, ◌⊎◌, ℕ, zero, suc, ◌*◌, ◌≤◌, ◌<◌, min, length, get_or, take}
+use Rattle.std.specs.Prelude.{◌≡◌, Bool, true, false, List, [], ◌∷◌, ◌⊎◌, ℕ, zero, suc, ◌*◌, ◌≤◌, ◌<◌, min, length, get_or, take, Option, Some, None, Result, Ok, Err}
 use Rattle.finite.specs.Truth.{◌&◌, ◌or◌, same, below}
 use Rattle.lawful.specs.Turn.{label_in}
 use Rattle.lawful.specs.Entry.{none}
 use Rattle.nodes.specs.Limits.{max_nodes}
+use Rattle.refusal.specs.declared.Refusal.{Refusal}
 use Rattle.refusal.specs.declared.Refusal.TheVariants.{Unknown}
-use Rattle.hops.specs.declared.HopAnswer.{HopAnswer}
-use Rattle.hops.specs.declared.HopAnswer.TheVariants.{Next, NoWay, Refused}
+use Rattle.hops.specs.declared.Hop.{Hop}
 use Rattle.hops.specs.Row.{RowFault, row_known, row_in}
+
+-- what hop answers: the next node and the class to use there, none, or a refusal
+abbrev pub HopAnswer : Type 0
+HopAnswer = Result (Option Hop) Refusal
+
+abbrev pub Next : ℕ → ℕ → HopAnswer
+Next node class = Ok (Some (record { node = node; class = class }))
+
+abbrev pub NoWay : HopAnswer
+NoWay = Ok None
 
 -- RULES 7.5: "It reads the byte of that row for the destination."
 abbrev pub stored_in : List ℕ → List ℕ → ℕ → ℕ → ℕ → ℕ → ℕ
@@ -27,7 +37,7 @@ unfoldable pub onward_of : List ℕ → ℕ → ℕ → ℕ → ℕ → ℕ → 
 onward_of labels n node class destination next =
     elim (same next none) [
       | true ↦ NoWay
-      | false ↦ elim (below next n) [ true ↦ Next next (class_after labels node class destination next) | false ↦ Refused (Unknown 0) ]
+      | false ↦ elim (below next n) [ true ↦ Next next (class_after labels node class destination next) | false ↦ Err (Unknown 0) ]
     ]
 
 -- what is lent has no fault: none of the row, a destination below N, and N labels
@@ -39,7 +49,7 @@ unfoldable pub hop_in : List ℕ → List ℕ → List ℕ → ℕ → ℕ → �
 hop_in labels free falling n node class destination =
     elim (hop_known labels free falling n node class destination) [
       | true ↦ onward_of labels n node class destination (stored_in free falling n node class destination)
-      | false ↦ Refused (Unknown 0)
+      | false ↦ Err (Unknown 0)
     ]
 
 -- the same over arrays that hold labels and tables at their front, as a fabric and a drain record do; more than 64 nodes are refused
@@ -51,19 +61,19 @@ hop_within labels free falling n node class destination =
 -- ---- an answer's parts: whether it names a next node, and that node and the class to use there, both 0 where it names none
 
 abbrev pub has_next : HopAnswer → Bool
-has_next (Next next class) = true
-has_next NoWay = false
-has_next (Refused r) = false
+has_next (Ok (Some hop)) = true
+has_next (Ok None) = false
+has_next (Err r) = false
 
 abbrev pub next_in : HopAnswer → ℕ
-next_in (Next next class) = next
-next_in NoWay = 0
-next_in (Refused r) = 0
+next_in (Ok (Some hop)) = hop.node
+next_in (Ok None) = 0
+next_in (Err r) = 0
 
 abbrev pub class_in : HopAnswer → ℕ
-class_in (Next next class) = class
-class_in NoWay = 0
-class_in (Refused r) = 0
+class_in (Ok (Some hop)) = hop.class
+class_in (Ok None) = 0
+class_in (Err r) = 0
 
 -- RULES 7.5: "a message that asks hop at each node, free at first and then with the class that it was answered": the nodes after v, k at the most, until it
 -- is at t or is answered no node
@@ -93,7 +103,7 @@ pub data ClassThen (labels : List ℕ) (node class destination next : ℕ) : ℕ
 
 -- each answer with its values; a refusal is `Unknown 0`, number 10 at place 0 (refusal/specs/Number)
 pub data OfHop (labels free falling : List ℕ) (n node class destination : ℕ) : HopAnswer → Type 0 where
-  refused : HopFault labels free falling n node class destination → OfHop labels free falling n node class destination (Refused (Unknown 0))
+  refused : HopFault labels free falling n node class destination → OfHop labels free falling n node class destination (Err (Unknown 0))
   no_way : (HopFault labels free falling n node class destination → ⊥) → stored_in free falling n node class destination ≡ none
       → OfHop labels free falling n node class destination NoWay
   next : (HopFault labels free falling n node class destination → ⊥) → (stored_in free falling n node class destination ≡ none → ⊥) → {then : ℕ}

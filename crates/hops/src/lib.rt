@@ -48,104 +48,101 @@ pub fn row<'a>(free: &'a [u8], falling: &'a [u8], n: usize, node: usize, class: 
     }
 }
 
-// What `hop` answers.
+// A hop: the next node, and the class to use there.
 #[derive(Clone, Copy)]
-pub enum HopAnswer {
-    // The next node, and the class to use there.
-    Next(u8, u8),
-    // 255 is stored.
-    NoWay,
-    Refused(Refusal),
+pub struct Hop {
+    pub node: u8,
+    pub class: u8,
 }
 
-// Is the label of `next` lower than the node's?
-fn falls(labels: &[u8], node: usize, next: usize) -> bool
-    ensures { result ≡ below (label_in labels.now next) (label_in labels.now node) }
-{
-    slices::byte(labels, next) < slices::byte(labels, node)
+// Labels and tables of N nodes, as they are lent.
+#[derive(Clone, Copy)]
+pub struct Tables<'a> {
+    pub nodes: usize,
+    pub labels: &'a [u8],
+    pub free: &'a [u8],
+    pub falling: &'a [u8],
 }
 
-// The class after a hop to the node `next`.
-fn class_after(labels: &[u8], node: usize, class: usize, destination: usize, next: usize) -> u8
-    requires { class ≤ 1 }
-    ensures { result ≡ class_after labels.now node class destination next }
-{
-    if node == destination {
-        return class as u8;
+impl<'a> Tables<'a> {
+    // Is the label of `next` lower than the node's?
+    fn falls(self, node: usize, next: usize) -> bool
+        ensures { result ≡ below (label_in self.entry.labels.now next) (label_in self.entry.labels.now node) }
+    {
+        slices::byte(self.labels, next) < slices::byte(self.labels, node)
     }
-    if class == 1 {
-        return 1;
-    }
-    if falls(labels, node, next) { 1 } else { 0 }
-}
 
-// What a byte that is stored leads to.
-fn onward(
-    labels: &[u8],
-    n: usize,
-    node: usize,
-    class: usize,
-    destination: usize,
-    next: u8,
-) -> HopAnswer
-    requires { class ≤ 1 }
-    ensures { result ≡ onward_of labels.now n node class destination next }
-{
-    if next == NONE {
-        return HopAnswer::NoWay;
+    // The class after a hop to the node `next`.
+    fn class_after(self, node: usize, class: usize, destination: usize, next: usize) -> u8
+        requires { class ≤ 1 }
+        ensures { result ≡ class_after self.entry.labels.now node class destination next }
+    {
+        if node == destination {
+            return class as u8;
+        }
+        if class == 1 {
+            return 1;
+        }
+        if self.falls(node, next) { 1 } else { 0 }
     }
-    if n <= (next as usize) {
-        return HopAnswer::Refused(Refusal::Unknown(0));
-    }
-    HopAnswer::Next(
-        next,
-        class_after(labels, node, class, destination, next as usize),
-    )
-}
 
-// The next node on the way to a destination, and the class to use there.
-pub fn hop<'a>(
-    labels: &'a [u8],
-    free: &'a [u8],
-    falling: &'a [u8],
-    n: usize,
-    node: usize,
-    class: usize,
-    destination: usize,
-) -> HopAnswer
-    ensures { result ≡ hop_in labels.now free.now falling.now n node class destination }
-{
-    let part = row(free, falling, n, node, class);
-    if part.len() <= destination {
-        return HopAnswer::Refused(Refusal::Unknown(0));
+    // What a byte that is stored leads to.
+    fn onward(
+        self,
+        node: usize,
+        class: usize,
+        destination: usize,
+        next: u8,
+    ) -> Result<Option<Hop>, Refusal>
+        requires { class ≤ 1 }
+        ensures { result ≡ onward_of self.entry.labels.now self.entry.nodes node class destination next }
+    {
+        if next == NONE {
+            return Ok(None);
+        }
+        let n = self.nodes;
+        if n <= usize::from(next) {
+            return Err(Refusal::Unknown(0));
+        }
+        let then = self.class_after(node, class, destination, usize::from(next));
+        Ok(Some(Hop {
+            node: next,
+            class: then,
+        }))
     }
-    if labels.len() != n {
-        return HopAnswer::Refused(Refusal::Unknown(0));
-    }
-    onward(labels, n, node, class, destination, part[destination])
-}
 
-// The same over arrays that hold labels and tables at their front, as a fabric and a drain record do.
-pub fn hop_within<'a>(
-    labels: &'a [u8],
-    free: &'a [u8],
-    falling: &'a [u8],
-    n: usize,
-    node: usize,
-    class: usize,
-    destination: usize,
-) -> HopAnswer
-    ensures { result ≡ hop_within labels.now free.now falling.now n node class destination }
-{
-    let k = nodes::capped(n);
-    let size = k * k;
-    hop(
-        slices::front(labels, k),
-        slices::front(free, size),
-        slices::front(falling, size),
-        n,
-        node,
-        class,
-        destination,
-    )
+    // The hop from a node to a destination: none where 255 is stored.
+    pub fn hop(self, node: usize, class: usize, destination: usize) -> Result<Option<Hop>, Refusal>
+        ensures { result ≡ hop_in self.entry.labels.now self.entry.free.now self.entry.falling.now self.entry.nodes node class destination }
+    {
+        let part = row(self.free, self.falling, self.nodes, node, class);
+        if part.len() <= destination {
+            return Err(Refusal::Unknown(0));
+        }
+        let n = self.nodes;
+        if self.labels.len() != n {
+            return Err(Refusal::Unknown(0));
+        }
+        self.onward(node, class, destination, part[destination])
+    }
+
+    // The same over arrays that hold labels and tables at their front, as a fabric and a drain record do.
+    pub fn within(
+        self,
+        node: usize,
+        class: usize,
+        destination: usize,
+    ) -> Result<Option<Hop>, Refusal>
+        ensures { result ≡ hop_within self.entry.labels.now self.entry.free.now self.entry.falling.now self.entry.nodes node class destination }
+    {
+        let k = nodes::capped(self.nodes);
+        let size = k * k;
+        let fronts = Tables {
+            nodes: self.nodes,
+            labels: slices::front(self.labels, k),
+            free: slices::front(self.free, size),
+            falling: slices::front(self.falling, size),
+        };
+        fronts.hop(node, class, destination)
+    }
 }

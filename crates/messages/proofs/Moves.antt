@@ -6,9 +6,7 @@ use Prim.Native.Nat.{ℕ, ◌-◌, ◌<◌, ◌≤◌}
 use native.Mathlib.Omega.{arith}
 use Rattle.finite.specs.Truth.{◌&◌, same, below}
 use Rattle.finite.proofs.Truth.{bcase, refute, both, and_l, and_r, same-eq, same-ne, eq-same, ne_same, below-lt, below-le, lt-below, le_below}
-use Rattle.hops.specs.declared.HopAnswer.{HopAnswer}
-use Rattle.hops.specs.declared.HopAnswer.TheVariants.{Next}
-use Rattle.hops.specs.Hop.{hop_within, has_next}
+use Rattle.hops.specs.Hop.{HopAnswer, Next, hop_within, has_next}
 use lib.ListN.{get_or}
 use Rattle.messages.specs.Sizes.{max_messages, max_channels}
 use Rattle.messages.specs.Channels.{hop_channel, consumption, all_taken, no_channel}

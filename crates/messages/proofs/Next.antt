@@ -11,8 +11,7 @@ use Rattle.finite.proofs.Lists.{get_or-inside}
 use Rattle.lawful.specs.Entry.{entry, free_after}
 use Rattle.lawful.specs.Turn.{label_in}
 use Rattle.claims.specs.Claims.{Progress, wanted}
-use Rattle.hops.specs.declared.HopAnswer.TheVariants.{Next}
-use Rattle.hops.specs.Hop.{hop_within}
+use Rattle.hops.specs.Hop.{Next, hop_within}
 use Rattle.hops.specs.Tabled.{class_of, Tabled}
 use Rattle.hops.proofs.Leads.{hop-entry}
 use Rattle.messages.specs.Sizes.{max_channels}

@@ -4,8 +4,7 @@ use Rattle.std.specs.Prelude.{Bool, true, false, List, ℕ, suc, ◌+◌, ◌-�
 use Rattle.finite.specs.Truth.{◌&◌, non, same, below}
 use Rattle.finite.specs.Lists.{tabulate}
 use Rattle.refusal.specs.declared.Refusal.TheVariants.{Unknown}
-use Rattle.hops.specs.declared.HopAnswer.{HopAnswer}
-use Rattle.hops.specs.Hop.{hop_within, has_next, next_in, class_in}
+use Rattle.hops.specs.Hop.{HopAnswer, hop_within, has_next, next_in, class_in}
 use Rattle.messages.specs.Sizes.{max_messages, max_channels, max_count}
 use Rattle.messages.specs.Channels.{hop_channel, consumption, all_taken, no_channel}
 use Rattle.messages.specs.declared.Record.{Record}

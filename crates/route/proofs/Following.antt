@@ -7,9 +7,7 @@ use native.Mathlib.Numerals.{add-one}
 use native.Mathlib.Nat.{sub-zero}
 use native.Mathlib.Omega.{arith}
 use lib.ListN.{length, length-append}
-use Rattle.hops.specs.declared.HopAnswer.{HopAnswer}
-use Rattle.hops.specs.declared.HopAnswer.TheVariants.{Next}
-use Rattle.hops.specs.Hop.{hop_within, has_next, walk_by}
+use Rattle.hops.specs.Hop.{HopAnswer, Next, hop_within, has_next, walk_by}
 use Rattle.hops.proofs.Cases.{walk_here, walk_stuck, walk-there}
 use Rattle.fabric.specs.declared.Fabric.{Fabric}
 use Rattle.laid.specs.Laid.{Page, page, behind}

@@ -1,8 +1,8 @@
--- `hops::class_after` meets its contract.
+-- `hops::Tables::class_after` meets its contract.
 use mathlib.Core.Path.{sym, ◌∙◌}
 use Rattle.finite.proofs.Truth.{below-lt, below-le}
 use Rattle.hops.proofs.Cases.{class-here, class-falling, class-fall, class-free}
-use Rattle.hops.proofs.class_after.Goals as goal
+use Rattle.hops.proofs.Tables.class_after.Goals as goal
 
 pub returns-then-node-destination : goal.returns-then-node-destination
 returns-then-node-destination c = sym (class-here _ _ _ _ _ c.if-node-destination.true)

@@ -1,9 +1,9 @@
--- `hops::hop_within` meets its contract: at most 64 times 64 is a small number.
+-- `hops::Tables::within` meets its contract: at most 64 times 64 is a small number.
 use native.Mathlib.Nat.{mul-le-mul}
 use native.Mathlib.Omega.{arith}
 use Rattle.nodes.specs.Limits.{max_nodes}
 use Rattle.hops.proofs.Cases.{fronts_within}
-use Rattle.hops.proofs.hop_within.Goals as goal
+use Rattle.hops.proofs.Tables.within.Goals as goal
 
 pub overflow_mul-size : goal.overflow_mul-size
 overflow_mul-size c =

@@ -1,8 +1,8 @@
--- `hops::falls` meets its contract.
+-- `hops::Tables::falls` meets its contract.
 use mathlib.Core.Path.{ap₂}
 use lib.Dec.{ltb}
 use Rattle.finite.specs.Truth.{below}
-use Rattle.hops.proofs.falls.Goals as goal
+use Rattle.hops.proofs.Tables.falls.Goals as goal
 
 pub returns : goal.returns
 unfolding below
