@@ -4,8 +4,7 @@ use mathlib.Core.List.{List}
 use Prim.Native.Nat.{ℕ, ◌≤◌}
 use lib.Dec.{lit≤}
 use lib.ListN.{length}
-use Rattle.results.specs.declared.Written.{Written}
-use Rattle.results.specs.Written.{Writes, room_for}
+use Rattle.results.specs.Written.{Writes, room_for, Written}
 use Rattle.lines.specs.Lines.{Told}
 use Rattle.lines.proofs.Printed.{call_prints}
 use Rattle.format.specs.Contents.{full_kinds}

@@ -2,8 +2,7 @@
 use mathlib.Core.Path.{◌≡◌}
 use mathlib.Core.List.{List}
 use Prim.Native.Nat.{ℕ}
-use Rattle.results.specs.declared.Written.{Written}
-use Rattle.results.specs.Written.{Writes, room_for}
+use Rattle.results.specs.Written.{Writes, room_for, Written}
 use Rattle.results.proofs.Determined.{writes_determined}
 use Rattle.built.specs.Builds.{longest_build, output_of}
 

@@ -1,5 +1,6 @@
 -- The one statement over the table of worked networks: every entry is right. Both sides of each equation are computed and are the same; that a drain counts the sum
 -- of (hops + 3) from any seed is its law, so of the moves only that sum is computed.
+use Rattle.std.specs.Prelude.{Ok}
 use mathlib.Core.Path.{◌≡◌, refl, ◌∙◌, ap, subst⁻¹}
 use mathlib.Core.Bool.{Bool, true, false}
 use mathlib.Core.List.Memᴰ
@@ -19,7 +20,6 @@ use Rattle.lawful.specs.Entry.{leads, joining, layer, lowest_lead, first_layer, 
 use Rattle.rule.specs.Candidate.{room, candidate, choice}
 use Rattle.rule.specs.Labels.{remains, give, stage, labelled, labels_of}
 use Rattle.turns.specs.Turns.{turns_that, all_turns, prohibited_turns}
-use Rattle.refusal.specs.declared.Verdict.TheVariants.{Fine}
 use Rattle.refusal.proofs.Verdicts.{then-fine}
 use Rattle.cabling.specs.Cabling.{Cabling, links, Good}
 use Rattle.cabling.specs.Faults.{is_counted, is_shaped, bad_ends, not_above, bad_pair, crowded, unreached, node_fault, link_fault, fault_of, is_above}
@@ -49,19 +49,19 @@ use Rattle.by_hand.specs.Networks.{Load, Tries, Worked, link, triangle, path, ri
 use Rattle.by_hand.specs.Right.{Given, EveryHop, EveryLoad, answers_of, EveryTry, Right}
 
 -- over either image of a good cabling a drain counts the sum of (hops + 3), whatever its seed
-drained_moves : (c : Cabling) (list : List ℕ) → Good c → list_fault c.nodes list ≡ Fine → (full : Bool) (old : Record) (seed : ℕ)
+drained_moves : (c : Cabling) (list : List ℕ) → Good c → list_fault c.nodes list ≡ Ok tt → (full : Bool) (old : Record) (seed : ℕ)
     → (drain_of old (image_of (kinds_of full) c) list seed).«record».moves ≡ all_moves c.nodes (links c) (labels_for c) list
 drained_moves c list g h full old seed =
     let b = image_of (kinds_of full) c in
     let e = read_cabling c g full in
-    let fine : start_fault b list ≡ Fine = then-fine _ (image-accepted c g full) ∙ ap (λ (x : Cabling). list_fault x.nodes list) e ∙ h in
+    let fine : start_fault b list ≡ (Ok tt) = then-fine _ (image-accepted c g full) ∙ ap (λ (x : Cabling). list_fault x.nodes list) e ∙ h in
     ap (λ (r : Record). r.moves) (drain-record old b list seed refl fine) ∙ end-moves b list fine seed
     ∙ ap (λ (x : Cabling). all_moves x.nodes (links x) (labels_for x) list) e
 
 -- what is to be computed of messages that drain, by labels that are computed before, and of moves that are tried
 abbrev LoadBy : Cabling → List ℕ → Load → Type 0
 LoadBy c labels l =
-    (list_fault c.nodes l.messages ≡ Fine) × (all_moves c.nodes (links c) labels l.messages ≡ l.moves)
+    (list_fault c.nodes l.messages ≡ Ok tt) × (all_moves c.nodes (links c) labels l.messages ≡ l.moves)
     × ((full : Bool) → (pick_of 0 (fresh_of (image_of (kinds_of full) c) l.messages)).look ≡ l.look)
 
 abbrev EveryLoadBy : Cabling → List ℕ → List Load → Type 0
@@ -94,7 +94,7 @@ module _ (c : Cabling) (good : Good c) where
 
 -- what is to be computed of an entry. The labels are computed once: W, the first node and the moves go by those that the entry lists
 right : (e : Worked)
-    → fault_of e.cabling ≡ Fine
+    → fault_of e.cabling ≡ Ok tt
     → labels_for e.cabling ≡ e.labels
     → all_turns e.cabling.nodes (links e.cabling) ≡ e.turns
     → prohibited_turns e.cabling.nodes (links e.cabling) (label_in e.labels) ≡ e.prohibited

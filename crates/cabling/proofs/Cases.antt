@@ -1,4 +1,5 @@
 -- The verdict case by case: which tests, in plain terms, lead to which fault.
+use Rattle.std.specs.Prelude.{Err, Ok}
 use mathlib.Core.Path.{◌≡◌, sym, ap}
 use mathlib.Core.Bool.{Bool, false}
 use mathlib.Core.Logic.{◌⊎◌, inl, inr}
@@ -12,7 +13,6 @@ use Rattle.finite.proofs.Decide.{by, pass, fail, least-is, decide-least}
 use Rattle.nodes.specs.Limits.{max_nodes, max_links}
 use Rattle.refusal.specs.declared.Refusal.{Refusal}
 use Rattle.refusal.specs.declared.Refusal.TheVariants.{Count, Shape, Ends, Order, Crowded, Apart}
-use Rattle.refusal.specs.declared.Verdict.TheVariants.{Fine, Fault}
 use Rattle.refusal.proofs.Verdicts.{fine-fault}
 use Rattle.cabling.specs.Cabling.{Cabling, links, EndsFine}
 use Rattle.cabling.specs.Faults.{bad_pair, pair_fault, crowded, unreached, node_fault, link_fault, fault_of}
@@ -22,23 +22,23 @@ use Rattle.cabling.proofs.Tests.{decide_counted, decide_shaped, decide_ends, dec
 -- ---- a pair
 
 module _ (c : Cabling) (p : ℕ) where
-  pub pair_ends : EndsBad c p → pair_fault c p ≡ Fault (Ends p)
+  pub pair_ends : EndsBad c p → pair_fault c p ≡ Err (Ends p)
   unfolding pair_fault
   pair_ends e = rw (pass (decide_ends c p) e, pair_fault)
 
-  pub pair_order : EndsFine c p → OrderBad c.pairs p → pair_fault c p ≡ Fault (Order p)
+  pub pair_order : EndsFine c p → OrderBad c.pairs p → pair_fault c p ≡ Err (Order p)
   unfolding pair_fault
   pair_order e o = rw (fail (decide_ends c p) e, pass (decide_order c.pairs p) o, pair_fault)
 
-  pub pair-fine : PairFine c p → pair_fault c p ≡ Fine
+  pub pair-fine : PairFine c p → pair_fault c p ≡ Ok tt
   unfolding pair_fault
   pair-fine e = rw (fail (decide_ends c p) e.0, fail (decide_order c.pairs p) e.1, pair_fault)
 
   -- and back
-  pub fault-pair : {r : Refusal} → pair_fault c p ≡ Fault r → EndsBad c p ⊎ OrderBad c.pairs p
+  pub fault-pair : {r : Refusal} → pair_fault c p ≡ Err r → EndsBad c p ⊎ OrderBad c.pairs p
   fault-pair h = by (decide_ends c p) inl (λ e. by (decide_order c.pairs p) inr (λ o. fine-fault (pair-fine (e, o)) h))
 
-  pub fine-pair : pair_fault c p ≡ Fine → PairFine c p
+  pub fine-pair : pair_fault c p ≡ Ok tt → PairFine c p
   fine-pair h =
       by (decide_ends c p) (λ e. fine-fault h (pair_ends e))
       (λ e. by (decide_order c.pairs p) (λ o. fine-fault h (pair_order e o)) (λ o. (e, o)))
@@ -59,30 +59,30 @@ module _ (c : Cabling) (k : ℕ) (before : (q : ℕ) → q < k → PairFine c q)
 -- ---- the lowest crowded node, the lowest that is not reached, and neither
 
 module _ (w : ℕ) (edge : ℕ → ℕ → Bool) (n : ℕ) {v : ℕ} (e : v ≡ least n (crowded w edge)) where
-  pub node-crowded : v < n → node_fault w edge n ≡ Fault (Crowded v)
+  pub node-crowded : v < n → node_fault w edge n ≡ Err (Crowded v)
   unfolding node_fault
-  node-crowded l = rw (lt-below {a = least n (crowded w edge)} {b = n} (omega arith), node_fault) (ap (λ (x : ℕ). Fault (Crowded x)) (sym e))
+  node-crowded l = rw (lt-below {a = least n (crowded w edge)} {b = n} (omega arith), node_fault) (ap (λ (x : ℕ). Err (Crowded x)) (sym e))
 
   module _ (l : n ≤ v) {u : ℕ} (f : u ≡ least n (unreached w edge)) where
     sparse : below (least n (crowded w edge)) n ≡ false
     sparse = le_below (omega arith)
 
-    pub node_apart : u < n → node_fault w edge n ≡ Fault (Apart u)
+    pub node_apart : u < n → node_fault w edge n ≡ Err (Apart u)
     unfolding node_fault
-    node_apart k = rw (sparse, lt-below {a = least n (unreached w edge)} {b = n} (omega arith), node_fault) (ap (λ (x : ℕ). Fault (Apart x)) (sym f))
+    node_apart k = rw (sparse, lt-below {a = least n (unreached w edge)} {b = n} (omega arith), node_fault) (ap (λ (x : ℕ). Err (Apart x)) (sym f))
 
-    pub node-fine : n ≤ u → node_fault w edge n ≡ Fine
+    pub node-fine : n ≤ u → node_fault w edge n ≡ Ok tt
     unfolding node_fault
     node-fine k = rw (sparse, le_below {a = least n (unreached w edge)} {b = n} (omega arith), node_fault)
 
 -- ---- the whole
 
 module _ (c : Cabling) where
-  pub whole-count : (c.nodes < 2) ⊎ (max_nodes < c.nodes) → fault_of c ≡ Fault Count
+  pub whole-count : (c.nodes < 2) ⊎ (max_nodes < c.nodes) → fault_of c ≡ Err Count
   unfolding fault_of
   whole-count h = rw (fail (decide_counted c.nodes) h, fault_of)
 
-  pub whole_shape : Counted c.nodes → (length c.pairs % 2 ≡ 0 → ⊥) ⊎ (2 * max_links < length c.pairs) → fault_of c ≡ Fault Shape
+  pub whole_shape : Counted c.nodes → (length c.pairs % 2 ≡ 0 → ⊥) ⊎ (2 * max_links < length c.pairs) → fault_of c ≡ Err Shape
   unfolding fault_of
   whole_shape h s = rw (pass (decide_counted c.nodes) h, fail (decide_shaped c.pairs) s, fault_of)
 

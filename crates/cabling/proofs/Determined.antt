@@ -1,6 +1,6 @@
 -- The promise of `fault` leaves one verdict: any two that it allows are equal.
+use Rattle.refusal.specs.Verdicts.{Verdict}
 use mathlib.Core.Path.{◌≡◌, sym, ◌∙◌}
-use Rattle.refusal.specs.declared.Verdict.{Verdict}
 use Rattle.cabling.specs.Cabling.{Cabling}
 use Rattle.cabling.specs.Faults.{fault_of}
 

@@ -1,4 +1,6 @@
 -- The verdict means what RULES 9.1 says: for each verdict, `fault_of` answers it exactly where its row of specs/Verdicts.antt holds.
+use Rattle.std.specs.Prelude.{Err, Ok}
+use Rattle.refusal.specs.Verdicts.{Verdict}
 use mathlib.Core.Path.{◌≡◌, sym, ◌∙◌, subst}
 use mathlib.Core.Logic.{◌↔◌, ◌⊎◌, inl, inr, ⊎_elim}
 use Prim.Native.Nat.{ℕ, ◌+◌, ◌-◌, ◌/◌, ◌≤◌, ◌<◌}
@@ -9,8 +11,6 @@ use Rattle.finite.proofs.Decide.{Decides, by, least-is, least-none, decide-least
 use Rattle.graph.specs.Network.{Walk}
 use Rattle.nodes.specs.Limits.{max_degree}
 use Rattle.refusal.specs.declared.Refusal.TheVariants.{Count, Shape, Ends, Order, Crowded, Apart, Short}
-use Rattle.refusal.specs.declared.Verdict.{Verdict}
-use Rattle.refusal.specs.declared.Verdict.TheVariants.{Fine, Fault}
 use Rattle.cabling.specs.Cabling.{Cabling, links, links_at, Above, Good}
 use Rattle.cabling.specs.Faults.{link_fault, node_fault, unreached, fault_of}
 use Rattle.cabling.specs.Verdicts.{EndsBad, OrderBad, Passed, PairsFine, Means, means_fine, means_count, means_shape, means_ends, means_order, means_crowded, means_apart}
@@ -78,15 +78,15 @@ module _ (c : Cabling) where
 
   row_of_nodes : PairsFine c → (v : Verdict) × Means c v
   row_of_nodes b =
-      by (decide-least c.nodes (decide_crowded c.nodes (links c))) (λ f. (Fault (Crowded _), means_crowded b f.0 f.1 f.2))
+      by (decide-least c.nodes (decide_crowded c.nodes (links c))) (λ f. (Err (Crowded _), means_crowded b f.0 f.1 f.2))
       (λ s.
-      by (decide-least c.nodes (parts b)) (λ f. (Fault (Apart _), means_apart b s f.0 f.1 f.2))
-      (λ w. (Fine, means_fine (passed-good b s w))))
+      by (decide-least c.nodes (parts b)) (λ f. (Err (Apart _), means_apart b s f.0 f.1 f.2))
+      (λ w. (Ok tt, means_fine (passed-good b s w))))
 
   row_of_pair : (p : ℕ) → p < length c.pairs / 2 → Passed c p → EndsBad c p ⊎ OrderBad c.pairs p → (v : Verdict) × Means c v
   row_of_pair p l b x =
-      by (decide_ends c p) (λ e. (Fault (Ends p), means_ends l b e))
-      (λ e. (Fault (Order p), means_order l b e (⊎_elim (λ y. absurd ((decide_ends c p).never y e)) (λ o. o) x)))
+      by (decide_ends c p) (λ e. (Err (Ends p), means_ends l b e))
+      (λ e. (Err (Order p), means_order l b e (⊎_elim (λ y. absurd ((decide_ends c p).never y e)) (λ o. o) x)))
 
   row : (v : Verdict) × Means c v
   row =
@@ -96,22 +96,22 @@ module _ (c : Cabling) where
       (λ s.
       by (decide-least (length c.pairs / 2) (decide_pair c))
       (λ f. row_of_pair _ f.0 (record { counted = h; shaped = s; fine = f.2 }) f.1)
-      (λ f. row_of_nodes (record { counted = h; shaped = s; fine = f }))) (λ s. (Fault Shape, means_shape h s))) (λ h. (Fault Count, means_count h))
+      (λ f. row_of_nodes (record { counted = h; shaped = s; fine = f }))) (λ s. (Err Shape, means_shape h s))) (λ h. (Err Count, means_count h))
 
   -- `fault_of` answers v exactly where v's row holds
   pub fault_means : (v : Verdict) → (fault_of c ≡ v) ↔ Means c v
   fault_means v = (λ e. let (w, m) = row in subst (Means c) (sym (answers m) ∙ e) m, answers)
 
   -- the verdict is fine exactly for a good cabling
-  pub fault-fine : (fault_of c ≡ Fine) ↔ Good c
-  fault-fine = (λ e. good ((fault_means Fine).0 e), λ g. answers (means_fine g))
+  pub fault-fine : (fault_of c ≡ Ok tt) ↔ Good c
+  fault-fine = (λ e. good ((fault_means (Ok tt)).0 e), λ g. answers (means_fine g))
     where
-      good : Means c Fine → Good c
+      good : Means c (Ok tt) → Good c
       good (means_fine g) = g
 
   -- and never that of another call
-  pub fault-not-short : fault_of c ≡ Fault Short → ⊥
-  fault-not-short e = none ((fault_means (Fault Short)).0 e)
+  pub fault-not-short : fault_of c ≡ Err Short → ⊥
+  fault-not-short e = none ((fault_means (Err Short)).0 e)
     where
-      none : Means c (Fault Short) → ⊥
+      none : Means c (Err Short) → ⊥
       none = elim [ ]

@@ -1,4 +1,5 @@
 -- What is wrong at a node does not depend on the width at which links are counted and followed, if it has room for the nodes; so the table of 64 rows says it.
+use Rattle.std.specs.Prelude.{Err, Ok}
 use mathlib.Core.Path.{◌≡◌, ◌∙◌, ap, ap₂}
 use mathlib.Core.Bool.{Bool, true, false}
 use mathlib.Core.List.{List}
@@ -14,7 +15,6 @@ use Rattle.graph.proofs.Walk.{network-wider}
 use Rattle.nodes.specs.Limits.{max_nodes, max_degree}
 use Rattle.network.specs.Table.{edge_of, table_of}
 use Rattle.refusal.specs.declared.Refusal.TheVariants.{Crowded, Apart}
-use Rattle.refusal.specs.declared.Verdict.TheVariants.{Fine, Fault}
 use Rattle.cabling.specs.Cabling.{Cabling, links, EndsFine}
 use Rattle.cabling.specs.Faults.{crowded, unreached, node_fault}
 use Rattle.cabling.proofs.Tests.{decide_unreached}
@@ -31,7 +31,7 @@ module _ (w n : ℕ) (edge : ℕ → ℕ → Bool) (net : Network n edge) (room 
   pub node_width : node_fault w edge n ≡ node_fault n edge n
   unfolding node_fault
   node_width =
-      ap₂ (λ (c u : ℕ). elim (below c n) [ true ↦ Fault (Crowded c) | false ↦ elim (below u n) [ true ↦ Fault (Apart u) | false ↦ Fine ] ])
+      ap₂ (λ (c u : ℕ). elim (below c n) [ true ↦ Err (Crowded c) | false ↦ elim (below u n) [ true ↦ Err (Apart u) | false ↦ Ok tt ] ])
       (least_cong n _ _ (λ v l. crowded_width v)) (least_cong n _ _ unreached_width)
 
 pub node-table : (c : Cabling) → ((p : ℕ) → p < length c.pairs / 2 → EndsFine c p) → c.nodes ≤ max_nodes → {t : List ℕ} → t ≡ table_of c.pairs

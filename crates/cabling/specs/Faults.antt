@@ -1,14 +1,13 @@
 -- The checks of a cabling in the order of RULES 9.2: 2, 3, then the first bad pair, 4 before 5, then 6, 7. The first fault is the verdict.
-use Rattle.std.specs.Prelude.{Bool, true, false, List, ℕ, ◌*◌, ◌-◌, ◌/◌, ◌%◌, leb, eqb, length}
+use Rattle.std.specs.Prelude.{Bool, true, false, List, ℕ, ◌*◌, ◌-◌, ◌/◌, ◌%◌, leb, eqb, length, Err, Ok}
 use Rattle.finite.specs.Truth.{◌&◌, ◌or◌, non, same, below}
 use Rattle.finite.specs.Sum.{count}
 use Rattle.finite.specs.Search.{least}
 use Rattle.finite.specs.Sets.{has}
 use Rattle.graph.specs.Reach.{reach}
 use Rattle.nodes.specs.Limits.{max_nodes, max_links, max_degree}
+use Rattle.refusal.specs.Verdicts.{Verdict}
 use Rattle.refusal.specs.declared.Refusal.TheVariants.{Count, Shape, Ends, Order, Crowded, Apart}
-use Rattle.refusal.specs.declared.Verdict.{Verdict}
-use Rattle.refusal.specs.declared.Verdict.TheVariants.{Fine, Fault}
 use Rattle.cabling.specs.Cabling.{Cabling, links, low_end, high_end}
 
 -- 2, RULES 9.1: "N not 2 to 64"
@@ -39,8 +38,8 @@ bad_pair c p = bad_ends c p or not_above c.pairs p
 unfoldable pub pair_fault : Cabling → ℕ → Verdict
 pair_fault c p =
     elim (bad_ends c p) [
-      | true ↦ Fault (Ends p)
-      | false ↦ elim (not_above c.pairs p) [ true ↦ Fault (Order p) | false ↦ Fine ]
+      | true ↦ Err (Ends p)
+      | false ↦ elim (not_above c.pairs p) [ true ↦ Err (Order p) | false ↦ Ok tt ]
     ]
 
 -- 6, RULES 9.1: "more than 16 links at a node", counted at the width w
@@ -56,8 +55,8 @@ unfoldable pub node_fault : ℕ → (ℕ → ℕ → Bool) → ℕ → Verdict
 node_fault w edge n =
     let c : ℕ = least n (crowded w edge) in
     elim (below c n) [
-      | true ↦ Fault (Crowded c)
-      | false ↦ let u : ℕ = least n (unreached w edge) in elim (below u n) [ true ↦ Fault (Apart u) | false ↦ Fine ]
+      | true ↦ Err (Crowded c)
+      | false ↦ let u : ℕ = least n (unreached w edge) in elim (below u n) [ true ↦ Err (Apart u) | false ↦ Ok tt ]
     ]
 
 -- the first bad pair; else what is wrong at a node
@@ -69,6 +68,6 @@ link_fault c =
 unfoldable pub fault_of : Cabling → Verdict
 fault_of c =
     elim (is_counted c.nodes) [
-      | false ↦ Fault Count
-      | true ↦ elim (is_shaped c.pairs) [ false ↦ Fault Shape | true ↦ link_fault c ]
+      | false ↦ Err Count
+      | true ↦ elim (is_shaped c.pairs) [ false ↦ Err Shape | true ↦ link_fault c ]
     ]

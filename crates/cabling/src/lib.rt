@@ -9,7 +9,7 @@ ghost use Rattle.cabling.specs.Cabling.{cabled, low_end, high_end};
 ghost use Rattle.cabling.specs.Faults.{bad_ends, is_above, not_above, pair_fault, crowded, unreached, node_fault, link_fault, fault_of};
 
 use nodes::{MAX_DEGREE, MAX_LINKS, MAX_NODES};
-use refusal::{Refusal, Verdict};
+use refusal::Refusal;
 
 // The first end of pair p, 0 past the end.
 fn low_end(pairs: &[u8], p: usize) -> usize
@@ -69,18 +69,18 @@ fn not_above(pairs: &[u8], p: usize) -> bool
 }
 
 // The fault of pair p: its ends before its place.
-fn pair_fault(n: usize, pairs: &[u8], p: usize) -> Verdict
+fn pair_fault(n: usize, pairs: &[u8], p: usize) -> Result<(), Refusal>
     ensures { result ≡ pair_fault (cabled n pairs.now) p }
 {
     let ends = bad_ends(n, pairs, p);
     let order = not_above(pairs, p);
     if ends {
-        return Verdict::Fault(Refusal::Ends(p));
+        return Err(Refusal::Ends(p));
     }
     if order {
-        return Verdict::Fault(Refusal::Order(p));
+        return Err(Refusal::Order(p));
     }
-    Verdict::Fine
+    Ok(())
 }
 
 // The lowest of the first n nodes with too many links, n where there is none.
@@ -105,50 +105,47 @@ fn lowest_apart(n: usize, t: &[u64]) -> usize
 }
 
 // What is wrong at a node: too many links before no walk from node 0.
-fn node_fault(n: usize, t: &[u64]) -> Verdict
+fn node_fault(n: usize, t: &[u64]) -> Result<(), Refusal>
     ensures { result ≡ node_fault max_nodes (edge_of t.now) n }
 {
     let v = lowest_crowded(n, t);
     if v < n {
-        return Verdict::Fault(Refusal::Crowded(v));
+        return Err(Refusal::Crowded(v));
     }
     let u = lowest_apart(n, t);
     if u < n {
-        return Verdict::Fault(Refusal::Apart(u));
+        return Err(Refusal::Apart(u));
     }
-    Verdict::Fine
+    Ok(())
 }
 
 // The fault of the first bad pair; where there is none, what is wrong at a node.
-fn link_fault(n: usize, pairs: &[u8]) -> Verdict
+fn link_fault(n: usize, pairs: &[u8]) -> Result<(), Refusal>
     requires { n ≤ max_nodes }
     ensures { result ≡ link_fault (cabled n pairs.now) }
 {
     for p in 0..pairs.len() / 2 {
-        let found = pair_fault(n, pairs, p);
-        if let Verdict::Fault(r) = found {
-            return Verdict::Fault(r);
-        }
+        pair_fault(n, pairs, p)?;
     }
     let t = network::table_of(pairs);
     node_fault(n, &t)
 }
 
 // The first fault of the cabling of n nodes and these pairs.
-pub fn fault(n: usize, pairs: &[u8]) -> Verdict
+pub fn fault(n: usize, pairs: &[u8]) -> Result<(), Refusal>
     ensures { result ≡ fault_of (cabled n pairs.now) }
 {
     if n < 2 {
-        return Verdict::Fault(Refusal::Count);
+        return Err(Refusal::Count);
     }
     if MAX_NODES < n {
-        return Verdict::Fault(Refusal::Count);
+        return Err(Refusal::Count);
     }
     if pairs.len() % 2 != 0 {
-        return Verdict::Fault(Refusal::Shape);
+        return Err(Refusal::Shape);
     }
     if 2 * MAX_LINKS < pairs.len() {
-        return Verdict::Fault(Refusal::Shape);
+        return Err(Refusal::Shape);
     }
     link_fault(n, pairs)
 }

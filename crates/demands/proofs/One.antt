@@ -1,5 +1,7 @@
 -- Demand 1 (RULES 2.1): each call keeps it. Two outcomes that its promise allows are equal, a refusal is given exactly when its row says, and a refused call
 -- leaves what was lent.
+use Rattle.std.specs.Prelude.{Err, Ok}
+use Rattle.refusal.specs.Verdicts.{Verdict}
 use mathlib.Core.Path.{◌≡◌, refl, sym, ◌∙◌, ap}
 use Rattle.std.specs.Prelude.{Err}
 use mathlib.Core.List.{List}
@@ -13,15 +15,12 @@ use Rattle.finite.proofs.Truth.{bcase, below-lt, below-le}
 use Rattle.refusal.specs.declared.Refusal.{Refusal}
 use Rattle.refusal.specs.declared.Refusal.TheVariants.{Short, Unknown}
 use Rattle.refusal.proofs.Determined.{refusal_unique}
-use Rattle.refusal.specs.declared.Verdict.{Verdict}
-use Rattle.refusal.specs.declared.Verdict.TheVariants.{Fine, Fault}
 use Rattle.refusal.proofs.Verdicts.{fine-fault, then-fault}
 use Rattle.cabling.specs.Faults.{fault_of}
 use Rattle.cabling.specs.Verdicts.{Means}
 use Rattle.cabling.proofs.Meaning.{fault_means}
 use Rattle.format.specs.Contents.{links_kinds, full_kinds, nodes_in, pairs_in}
 use Rattle.contents.proofs.Determined.{step_determined}
-use Rattle.results.specs.declared.Written.TheVariants.{NotWritten}
 use Rattle.results.specs.Written.{written_of, Writes}
 use Rattle.results.proofs.Meaning.{written-fault, written-short, refused_in_room, refused-untouched}
 use Rattle.results.proofs.Determined.{writes_determined}
@@ -58,19 +57,19 @@ numbered h number place = (λ x. let (r, p, n, q) = x in (r, (h r).0 p, n, q), �
 
 module _ {Of : Verdict → Type 0} (bytes : List ℕ) (room : ℕ) where
   -- with what the verdict means, the refusals of the answer mean what the rows say
-  rows_mean : (v : Verdict) → ((w : Verdict) → (v ≡ w) ↔ Of w) → (r : Refusal) → (written_of v bytes room ≡ NotWritten r) ↔ RefusalRows Of (length bytes) room r
+  rows_mean : (v : Verdict) → ((w : Verdict) → (v ≡ w) ↔ Of w) → (r : Refusal) → (written_of v bytes room ≡ Err r) ↔ RefusalRows Of (length bytes) room r
   rows_mean v m r = (from v m, back r)
     where
-      from : (v : Verdict) → ((w : Verdict) → (v ≡ w) ↔ Of w) → written_of v bytes room ≡ NotWritten r → RefusalRows Of (length bytes) room r
-      from (Fault q) m e = fault ((m (Fault r)).0 (let f = written-fault bytes room q in cc))
-      from Fine m e =
-          bcase (leb (length bytes) room) (λ t. fine-fault refl (refused_in_room bytes room Fine r (λ f. leb-true _ _ t) e))
+      from : (v : Verdict) → ((w : Verdict) → (v ≡ w) ↔ Of w) → written_of v bytes room ≡ Err r → RefusalRows Of (length bytes) room r
+      from (Err q) m e = fault ((m (Err r)).0 (let f = written-fault bytes room q in cc))
+      from (Ok _) m e =
+          bcase (leb (length bytes) room) (λ t. fine-fault refl (refused_in_room bytes room (Ok tt) r (λ f. leb-true _ _ t) e))
           (λ t.
           let l = leb-false _ _ t in
           let q : Short ≡ r = let f = (written-short bytes room).1 l in cc in
-          rw (← q) (short ((m Fine).0 refl) l))
+          rw (← q) (short ((m (Ok tt)).0 refl) l))
 
-      back : (r : Refusal) → RefusalRows Of (length bytes) room r → written_of v bytes room ≡ NotWritten r
+      back : (r : Refusal) → RefusalRows Of (length bytes) room r → written_of v bytes room ≡ Err r
       back r (fault o) = ap (λ (w : Verdict). written_of w bytes room) ((m _).1 o) ∙ written-fault bytes room _
       back r (short o l) = ap (λ (w : Verdict). written_of w bytes room) ((m _).1 o) ∙ (written-short bytes room).1 l
 
@@ -109,9 +108,9 @@ route_means b s t v = (λ e. rw (← e) row, given)
     row = go (image_fault b) refl
       where
         go : (w : Verdict) → image_fault b ≡ w → OfRoute b s t (route_fault b s t)
-        go (Fault r) e = rw (then-fault _ e) (of_image ((either_means b (Fault r)).0 e))
-        go Fine e =
-            let fine = (either_means b Fine).0 e in
+        go (Err r) e = rw (then-fault _ e) (of_image ((either_means b (Err r)).0 e))
+        go (Ok _) e =
+            let fine = (either_means b (Ok tt)).0 e in
             bcase (below s (nodes_in b))
             (λ k.
             bcase (below t (nodes_in b)) (λ l. rw (not-refused b s t e (below-lt _ _ k) (below-lt _ _ l)) (of_nodes fine (below-lt _ _ k) (below-lt _ _ l)))
@@ -120,8 +119,8 @@ route_means b s t v = (λ e. rw (← e) row, given)
 
     given : {v : Verdict} → OfRoute b s t v → route_fault b s t ≡ v
     given (of_image o) = then-fault _ ((either_means b _).1 o)
-    given (no_node o h) = ends-refused b s t ((either_means b Fine).1 o) h
-    given (of_nodes o k l) = not-refused b s t ((either_means b Fine).1 o) k l
+    given (no_node o h) = ends-refused b s t ((either_means b (Ok tt)).1 o) h
+    given (of_nodes o k l) = not-refused b s t ((either_means b (Ok tt)).1 o) k l
 
 pub route-keeps : KeepsPromise Route NotWrites RouteRows
 route-keeps = writes_keep (λ i. route_fault i.0 i.1 i.2) (λ i. route_bytes i.0 i.1 i.2) (λ i. OfRoute i.0 i.1 i.2) (λ i. route_means i.0 i.1 i.2)
@@ -144,9 +143,9 @@ start-keeps = record {
   one = λ i s t u a b x y. let e = x ∙ sym y in (ap (λ (z : Started). z.verdict) e, ap (λ (z : Started). z.«record») e);
   given = λ i s t v x.
       let e : v ≡ start_fault i.0 i.1 = ap (λ (z : Started). z.verdict) x in
-      numbered (λ r. let m = start_means i.0 i.1 (Fault r) in (λ h. m.0 (sym e ∙ h), λ o. e ∙ m.1 o));
+      numbered (λ r. let m = start_means i.0 i.1 (Err r) in (λ h. m.0 (sym e ∙ h), λ o. e ∙ m.1 o));
   untouched = λ i s t v r x h.
-      let e : start_fault i.0 i.1 ≡ Fault r = sym (ap (λ (z : Started). z.verdict) x) ∙ h in
+      let e : start_fault i.0 i.1 ≡ Err r = sym (ap (λ (z : Started). z.verdict) x) ∙ h in
       ap (λ (z : Started). z.«record») x ∙ rw (e, record_after);
 }
 

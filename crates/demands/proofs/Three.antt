@@ -1,4 +1,5 @@
 -- Demand 3 (RULES 2.3): from a start that answers fine, whatever the image and the list, and whichever moves are tried from there.
+use Rattle.std.specs.Prelude.{Ok}
 use mathlib.Core.Path.{◌≡◌, refl, ap}
 use mathlib.Core.Bool.{Bool}
 use mathlib.Core.List.{List, [], ◌∷◌}
@@ -6,7 +7,6 @@ use Prim.Native.Nat.{ℕ, ◌+◌}
 use native.Mathlib.Omega.{arith}
 use Rattle.finite.proofs.Truth.{bcase}
 use Rattle.finite.proofs.Sum.{when_true, when_false}
-use Rattle.refusal.specs.declared.Verdict.TheVariants.{Fine}
 use Rattle.cabling.specs.Cabling.{Cabling, links}
 use Rattle.fabric.specs.Fabric.{fabric_of}
 use Rattle.image.specs.Image.{cabling_in}
@@ -39,7 +39,7 @@ module _ {n : ℕ} {edge : ℕ → ℕ → Bool} {labels free falling list : Lis
       (λ t. let w = when_false 1 t in let e = ap (λ (x : Record). x.moves) (unchanged r m t) in omega arith)
 
 -- the sum over a start's messages is that of its machine
-module _ (b list : List ℕ) (fine : start_fault b list ≡ Fine) where
+module _ (b list : List ℕ) (fine : start_fault b list ≡ Ok tt) where
   abbrev c : Cabling
   c = cabling_in b
 

@@ -1,5 +1,6 @@
 -- Demand 2 (RULES 2.2): for every good cabling. Each premise `Writes ..`, `Reads ..`, `Cables ..` or `Sheets ..` is the promise of the call that the sentence
 -- names, whatever buffer was lent.
+use Rattle.std.specs.Prelude.{Ok}
 use mathlib.Core.Path.{◌≡◌, sym, ◌∙◌, fun_ext}
 use mathlib.Core.Bool.{Bool, true, false}
 use mathlib.Core.List.{List}
@@ -19,9 +20,7 @@ use Rattle.fabric.proofs.Routes.{good-route}
 use Rattle.fabric.proofs.Hops.{good-walk}
 use Rattle.format.specs.Contents.{links_kinds, full_kinds}
 use Rattle.format.proofs.Order.{in_order_iff}
-use Rattle.results.specs.declared.Written.{Written}
-use Rattle.results.specs.declared.Written.TheVariants.{Bytes}
-use Rattle.results.specs.Written.{placed, Writes}
+use Rattle.results.specs.Written.{placed, Writes, Written}
 use Rattle.image.specs.Image.{bodies_of, image_of, kinds_of, cabling_in}
 use Rattle.image.specs.Faults.{links_fault}
 use Rattle.reading.specs.Reads.{Reads}
@@ -91,43 +90,43 @@ module _ (c : Cabling) (g : Good c) where
     -- and write too answers, with either image
     pub demand_2_write : (full : Bool) {answer : Written} → length (image_of (kinds_of full) c) ≤ length before
         → Writes (fault_of c) (image_of (kinds_of full) c) before answer after
-        → (answer ≡ Bytes (length (image_of (kinds_of full) c))) × (after ≡ placed (image_of (kinds_of full) c) before)
+        → (answer ≡ Ok (length (image_of (kinds_of full) c))) × (after ≡ placed (image_of (kinds_of full) c) before)
     demand_2_write = never-refused c g
 
     -- cable makes the links image of a cabling's sheet, and sheet the sheet of its links image
     pub demand_2_cable : {answer : Written} → length (image_of links_kinds c) ≤ length before → Cables (sheet_of c) before answer after
-        → (answer ≡ Bytes (length (image_of links_kinds c))) × (after ≡ placed (image_of links_kinds c) before)
+        → (answer ≡ Ok (length (image_of links_kinds c))) × (after ≡ placed (image_of links_kinds c) before)
     demand_2_cable = cable_never_refused g
 
     pub demand_2_sheet : {answer : Written} → length (sheet_of c) ≤ length before → Sheets (image_of links_kinds c) before answer after
-        → (answer ≡ Bytes (length (sheet_of c))) × (after ≡ placed (sheet_of c) before)
+        → (answer ≡ Ok (length (sheet_of c))) × (after ≡ placed (sheet_of c) before)
     demand_2_sheet = sheet-never-refused g
 
 -- writing what was read gives back the same bytes: of any image that read accepts
 pub demand_2_back : (b before after : List ℕ) (n m : ℕ) (full : Bool) → Reads b before (Read n m full) after
     → {room left : List ℕ} {answer : Written} → length b ≤ length room
     → Writes (fault_of (cabled n (take (2 * m) after))) (image_of (kinds_of full) (cabled n (take (2 * m) after))) room answer left
-    → (answer ≡ Bytes (length b)) × (left ≡ placed b room)
+    → (answer ≡ Ok (length b)) × (left ≡ placed b room)
 demand_2_back = write_read
 
 -- what cable accepts is the sheet of a good cabling, and what it writes is that cabling's links image
-pub demand_2_only_sheets : (s before after : List ℕ) (m : ℕ) → Cables s before (Bytes m) after
+pub demand_2_only_sheets : (s before after : List ℕ) (m : ℕ) → Cables s before (Ok m) after
     → (c : Cabling) × Good c × (s ≡ sheet_of c) × (take m after ≡ image_of links_kinds c)
 demand_2_only_sheets s before after m w = let (g, e, front) = cabled-sheet s before after m w in (cabling_on s, g, e, front)
 
 -- RULES 6.5: "A sheet has at most 3,075 bytes.": what cable accepts, and what sheet writes
-pub demand_2_sheet_size : (s before after : List ℕ) (m : ℕ) → (Cables s before (Bytes m) after → length s ≤ 3075) × (Sheets s before (Bytes m) after → m ≤ 3075)
+pub demand_2_sheet_size : (s before after : List ℕ) (m : ℕ) → (Cables s before (Ok m) after → length s ≤ 3075) × (Sheets s before (Ok m) after → m ≤ 3075)
 demand_2_sheet_size s before after m = (cable_size s before after m, sheet-written-size s before after m)
 
 -- RULES 2.2: "Every accepted cabling has exactly one sheet.": that of `demand_2_cable`, and no two sheets become the same image
-pub demand_2_one_sheet : (s t before after room left : List ℕ) (m n : ℕ) → Cables s before (Bytes m) after → Cables t room (Bytes n) left → take m after ≡ take n left → s ≡ t
+pub demand_2_one_sheet : (s t before after room left : List ℕ) (m n : ℕ) → Cables s before (Ok m) after → Cables t room (Ok n) left → take m after ≡ take n left → s ≡ t
 demand_2_one_sheet = one-sheet
 
 -- RULES 2.2: "From a sheet to its links image and back, and from a links image to its sheet and back, the same bytes come out."
-pub demand_2_sheet_again : (s before after : List ℕ) (m : ℕ) → Cables s before (Bytes m) after
-    → {room left : List ℕ} {answer : Written} → length s ≤ length room → Sheets (take m after) room answer left → (answer ≡ Bytes (length s)) × (left ≡ placed s room)
+pub demand_2_sheet_again : (s before after : List ℕ) (m : ℕ) → Cables s before (Ok m) after
+    → {room left : List ℕ} {answer : Written} → length s ≤ length room → Sheets (take m after) room answer left → (answer ≡ Ok (length s)) × (left ≡ placed s room)
 demand_2_sheet_again = sheet-again
 
-pub demand_2_image_again : (b before after : List ℕ) (m : ℕ) → Sheets b before (Bytes m) after
-    → {room left : List ℕ} {answer : Written} → length b ≤ length room → Cables (take m after) room answer left → (answer ≡ Bytes (length b)) × (left ≡ placed b room)
+pub demand_2_image_again : (b before after : List ℕ) (m : ℕ) → Sheets b before (Ok m) after
+    → {room left : List ℕ} {answer : Written} → length b ≤ length room → Cables (take m after) room answer left → (answer ≡ Ok (length b)) × (left ≡ placed b room)
 demand_2_image_again = image-again

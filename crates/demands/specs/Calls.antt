@@ -1,11 +1,10 @@
 -- Demand 1 in words (RULES 2.1): of each call its promise, which of its answers are refusals, and the rows of RULES 9.1 for them. A lent buffer or record is
 -- what it was before and after.
-use Rattle.std.specs.Prelude.{◌≡◌, Bool, List, [], ◌↔◌, ◌⊎◌, ℕ, ◌≤◌, ◌<◌, length, Err}
+use Rattle.std.specs.Prelude.{◌≡◌, Bool, List, [], ◌↔◌, ◌⊎◌, ℕ, ◌≤◌, ◌<◌, length, Err, Ok}
+use Rattle.refusal.specs.Verdicts.{Verdict}
 use Rattle.refusal.specs.Number.{number_of, place_of}
 use Rattle.refusal.specs.declared.Refusal.{Refusal}
 use Rattle.refusal.specs.declared.Refusal.TheVariants.{Short, Unknown}
-use Rattle.refusal.specs.declared.Verdict.{Verdict}
-use Rattle.refusal.specs.declared.Verdict.TheVariants.{Fine, Fault}
 use Rattle.cabling.specs.Cabling.{Cabling}
 use Rattle.cabling.specs.Faults.{fault_of}
 use Rattle.cabling.specs.Verdicts.{Means}
@@ -15,9 +14,7 @@ use Rattle.format.specs.Contents.{links_kinds, full_kinds, nodes_in, pairs_in}
 use Rattle.format.specs.declared.Entry.{Entry}
 use Rattle.contents.specs.declared.Reader.{Reader}
 use Rattle.contents.specs.Walking.{step_from}
-use Rattle.results.specs.declared.Written.{Written}
-use Rattle.results.specs.declared.Written.TheVariants.{NotWritten}
-use Rattle.results.specs.Written.{Writes}
+use Rattle.results.specs.Written.{Writes, Written}
 use Rattle.image.specs.Image.{image_of, kinds_of, cabling_in}
 use Rattle.image.specs.Faults.{links_fault}
 use Rattle.image.specs.Verdicts.{OfLinks, OfEither}
@@ -51,11 +48,11 @@ pub record KeepsPromise {I S A : Type 0} (Promise : I → S → A → S → Type
 -- ---- calls that write: the rows of their checks, and 9, RULES 9.1, "the result is longer than the buffer", after all of them
 
 pub data RefusalRows (Of : Verdict → Type 0) (size room : ℕ) : Refusal → Type 0 where
-  fault : {r : Refusal} → Of (Fault r) → RefusalRows Of size room r
-  short : Of Fine → room < size → RefusalRows Of size room Short
+  fault : {r : Refusal} → Of (Err r) → RefusalRows Of size room r
+  short : Of (Ok tt) → room < size → RefusalRows Of size room Short
 
 abbrev pub NotWrites : Written → Refusal → Type 0
-NotWrites a r = a ≡ NotWritten r
+NotWrites a r = a ≡ Err r
 
 abbrev pub Write : Cabling × Bool → List ℕ → Written → List ℕ → Type 0
 Write i before a after = Writes (fault_of i.0) (image_of (kinds_of i.1) i.0) before a after
@@ -85,9 +82,9 @@ ReadRows b before = RefusalRows (OfEither b) (length (pairs_in b)) (length befor
 
 -- 10, RULES 9.1: "Route: a node ≥ N.", after the image's own
 pub data OfRoute (b : List ℕ) (s t : ℕ) : Verdict → Type 0 where
-  of_image : {r : Refusal} → OfEither b (Fault r) → OfRoute b s t (Fault r)
-  no_node : OfEither b Fine → (nodes_in b ≤ s) ⊎ (nodes_in b ≤ t) → OfRoute b s t (Fault (Unknown 0))
-  of_nodes : OfEither b Fine → s < nodes_in b → t < nodes_in b → OfRoute b s t Fine
+  of_image : {r : Refusal} → OfEither b (Err r) → OfRoute b s t (Err r)
+  no_node : OfEither b (Ok tt) → (nodes_in b ≤ s) ⊎ (nodes_in b ≤ t) → OfRoute b s t (Err (Unknown 0))
+  of_nodes : OfEither b (Ok tt) → s < nodes_in b → t < nodes_in b → OfRoute b s t (Ok tt)
 
 abbrev pub Route : List ℕ × ℕ × ℕ → List ℕ → Written → List ℕ → Type 0
 Route i before a after = Writes (route_fault i.0 i.1 i.2) (route_bytes i.0 i.1 i.2) before a after
@@ -98,13 +95,13 @@ RouteRows i before = RefusalRows (OfRoute i.0 i.1 i.2) (length (route_bytes i.0 
 -- ---- calls over a record
 
 abbrev pub NotStarts : Verdict → Refusal → Type 0
-NotStarts v r = v ≡ Fault r
+NotStarts v r = v ≡ Err r
 
 abbrev pub Start : List ℕ × List ℕ → Record → Verdict → Record → Type 0
 Start i old v after = beside v after ≡ start_of old i.0 i.1
 
 abbrev pub StartRows : List ℕ × List ℕ → Record → Refusal → Type 0
-StartRows i old r = OfStart i.0 i.1 (Fault r)
+StartRows i old r = OfStart i.0 i.1 (Err r)
 
 abbrev pub NotMoves : Answer → Refusal → Type 0
 NotMoves a r = a ≡ move.Refused r

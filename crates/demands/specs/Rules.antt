@@ -1,5 +1,5 @@
 -- Demand 2 in words (RULES 2.2): what the bodies behind kind 1 of a full image hold, and what build, read and write make of a good cabling.
-use Rattle.std.specs.Prelude.{◌≡◌, List, [], ◌∷◌, ℕ, length}
+use Rattle.std.specs.Prelude.{◌≡◌, List, [], ◌∷◌, ℕ, length, Ok}
 use Rattle.lawful.specs.Path.{LawfulTo, FallsTo}
 use Rattle.lawful.specs.Turn.{label_in}
 use Rattle.rule.specs.Labels.{ByRule}
@@ -8,9 +8,7 @@ use Rattle.fabric.specs.Rows.{RowsBy}
 use Rattle.format.specs.Contents.{full_kinds}
 use Rattle.format.specs.Bytes.{bodies_from}
 use Rattle.format.specs.Order.{InOrder}
-use Rattle.results.specs.declared.Written.{Written}
-use Rattle.results.specs.declared.Written.TheVariants.{Bytes}
-use Rattle.results.specs.Written.{placed}
+use Rattle.results.specs.Written.{placed, Written}
 
 -- labels by the rule of RULES 4, free entries that begin a shortest lawful path and falling entries a shortest path of falls, RULES 5.2: "the lowest number
 -- where several begin one", RULES 5.3: "255 exactly when there is none"
@@ -24,7 +22,7 @@ pub record ByTheRule (c : Cabling) (labels free falling : List ℕ) : Type 0 whe
 -- by the rule
 pub record Built (c : Cabling) (before : List ℕ) (answer : Written) (after : List ℕ) : Type 0 where
   pub image : List ℕ
-  pub answers : answer ≡ Bytes (length image)
+  pub answers : answer ≡ Ok (length image)
   pub leaves : after ≡ placed image before
   pub ordered : InOrder image full_kinds
   pub labels : List ℕ

@@ -1,4 +1,5 @@
 -- What drain prints, case by case.
+use Rattle.std.specs.Prelude.{Err, Ok}
 use mathlib.Core.Path.{◌≡◌, ◌∙◌, ap}
 use mathlib.Core.List.{List, [], ◌∷◌}
 use Prim.Native.Nat.{ℕ, ◌+◌, ◌*◌, ◌-◌, ◌≤◌, ◌<◌}
@@ -10,12 +11,9 @@ use borrow.Author.Tests.{le-leb, lt-leb}
 use Rattle.finite.proofs.Slices.{part-rest}
 use Rattle.refusal.specs.declared.Refusal.{Refusal}
 use Rattle.refusal.specs.declared.Refusal.TheVariants.{Contents}
-use Rattle.refusal.specs.declared.Verdict.TheVariants.{Fine, Fault}
 use Rattle.laid.specs.Laid.{Page, page}
 use Rattle.laid.proofs.Pieces.{lays_as}
-use Rattle.results.specs.declared.Written.{Written}
-use Rattle.results.specs.declared.Written.TheVariants.{Bytes}
-use Rattle.results.specs.Written.{Writes, room_for}
+use Rattle.results.specs.Written.{Writes, room_for, Written}
 use Rattle.format.specs.Limits.{half_word}
 use Rattle.format.specs.Contents.{number_at}
 use Rattle.lines.specs.Lines.{with_line, refusal_line, longest_refusal}
@@ -32,7 +30,7 @@ abbrev pub end_in : List ℕ → Record
 end_in input = end_of (image_in input) (list_in input) (seed_in input)
 
 module _ (input : List ℕ) where
-  pub fault-short : length input < image_end input + 4 → input_fault input ≡ Fault Contents
+  pub fault-short : length input < image_end input + 4 → input_fault input ≡ Err Contents
   unfolding input_fault
   fault-short l = rw (lt-leb _ _ l, input_fault)
 
@@ -40,13 +38,13 @@ module _ (input : List ℕ) where
   unfolding input_fault
   fault-start whole = rw (le-leb _ _ whole, input_fault)
 
-  pub drain-refused : {before after : List ℕ} {r : Refusal} {answer : Written} → longest_drain ≤ length before → input_fault input ≡ Fault r
+  pub drain-refused : {before after : List ℕ} {r : Refusal} {answer : Written} → longest_drain ≤ length before → input_fault input ≡ Err r
       → Writes (room_for longest_refusal before) (refusal_line r) before answer after → Writes (room_for longest_drain before) (output_of input) before answer after
   unfolding output_of
   drain-refused room e w = fault-prints (drained_line (end_in input)) room e (lit≤ tt) w
 
-  pub drain-prints : {before : List ℕ} {p : Page} {r : Record} → longest_drain ≤ length before → input_fault input ≡ Fine → r ≡ end_in input
-      → p ≡ with_line (page before 0) drained_word (r.messages ∷ r.moves ∷ []) → Writes (room_for longest_drain before) (output_of input) before (Bytes p.at) p.bytes
+  pub drain-prints : {before : List ℕ} {p : Page} {r : Record} → longest_drain ≤ length before → input_fault input ≡ Ok tt → r ≡ end_in input
+      → p ≡ with_line (page before 0) drained_word (r.messages ∷ r.moves ∷ []) → Writes (room_for longest_drain before) (output_of input) before (Ok p.at) p.bytes
   unfolding output_of
   drain-prints room v e l = lays-prints (drained_line (end_in input)) room v (lays_as (lays-line drained_word _ l room) (ap drained_line e))
 

@@ -1,11 +1,11 @@
 -- What a drain prints is the same for every seed: the messages, and the sum of (shortest lawful hops + 3); `drained 0 0` where there is no message.
+use Rattle.std.specs.Prelude.{Ok}
+use Rattle.refusal.specs.Verdicts.{Verdict}
 use mathlib.Core.Path.{◌≡◌, ◌∙◌, ap, ap₂}
 use mathlib.Core.List.{List, [], ◌∷◌}
 use Prim.Native.Nat.{ℕ, ◌+◌, ◌≤◌}
 use lib.ListN.{length}
 use Rattle.finite.specs.Sum.{sum_to}
-use Rattle.refusal.specs.declared.Verdict.{Verdict}
-use Rattle.refusal.specs.declared.Verdict.TheVariants.{Fine}
 use Rattle.lines.specs.Lines.{line_of, or_refused}
 use Rattle.messages.specs.Runs.{messages_in, all_moves}
 use Rattle.start.specs.Start.{start_fault}
@@ -14,7 +14,7 @@ use Rattle.draining.proofs.Meaning.{end-messages, end-moves}
 use Rattle.drained.specs.Drains.{image_end, image_in, seed_in, list_in, drained_word, drained_line, output_of}
 use Rattle.drained.proofs.Cases.{end_in, fault-start}
 
-module _ (input : List ℕ) (whole : image_end input + 4 ≤ length input) (fine : start_fault (image_in input) (list_in input) ≡ Fine) where
+module _ (input : List ℕ) (whole : image_end input + 4 ≤ length input) (fine : start_fault (image_in input) (list_in input) ≡ Ok tt) where
   pub prints : output_of input ≡ line_of drained_word (messages_in (list_in input) ∷ sum_of (image_in input) (list_in input) ∷ [])
   unfolding output_of or_refused
   prints =

@@ -1,8 +1,7 @@
 -- RULES 10.4: "Drain takes an image's length (16 bits, low byte first), the image, a seed of 32 bits (low byte first) and pairs."
-use Rattle.std.specs.Prelude.{true, false, List, [], ◌∷◌, ℕ, ◌+◌, ◌*◌, leb, length, take, drop}
+use Rattle.std.specs.Prelude.{true, false, List, [], ◌∷◌, ℕ, ◌+◌, ◌*◌, leb, length, take, drop, Err}
+use Rattle.refusal.specs.Verdicts.{Verdict}
 use Rattle.refusal.specs.declared.Refusal.TheVariants.{Contents}
-use Rattle.refusal.specs.declared.Verdict.{Verdict}
-use Rattle.refusal.specs.declared.Verdict.TheVariants.{Fault}
 use Rattle.format.specs.Limits.{half_word}
 use Rattle.format.specs.Contents.{number_at}
 use Rattle.lines.specs.Lines.{line_of, or_refused}
@@ -26,7 +25,7 @@ list_in input = drop (image_end input + 4) input
 -- RULES 10.4: "Input too short for length, image or seed is refusal 1."; then start's
 unfoldable pub input_fault : List ℕ → Verdict
 input_fault input =
-    elim (leb (image_end input + 4) (length input)) [ true ↦ start_fault (image_in input) (list_in input) | false ↦ Fault Contents ]
+    elim (leb (image_end input + 4) (length input)) [ true ↦ start_fault (image_in input) (list_in input) | false ↦ Err Contents ]
 
 -- the word `drained`
 abbrev pub drained_word : List ℕ

@@ -1,5 +1,6 @@
 -- What a drain comes to, whatever its seed: it takes exactly as many picks as the sum of (shortest lawful hops + 3), which it counts; then every message is
 -- delivered and every channel is free.
+use Rattle.std.specs.Prelude.{Ok}
 use mathlib.Core.Path.{◌≡◌, sym, ◌∙◌}
 use mathlib.Core.Bool.{true, false}
 use mathlib.Core.List.{List}
@@ -7,7 +8,6 @@ use mathlib.Core.Logic.{◌↔◌}
 use Prim.Native.Nat.{ℕ, ◌≤◌, ◌<◌}
 use native.Mathlib.Nat.{le_refl}
 use native.Mathlib.Omega.{arith}
-use Rattle.refusal.specs.declared.Verdict.TheVariants.{Fine}
 use Rattle.format.specs.Contents.{nodes_in}
 use Rattle.image.specs.Image.{cabling_in}
 use Rattle.messages.specs.declared.Record.{Record}
@@ -25,7 +25,7 @@ use Rattle.draining.specs.Drained.{after, sum_of, end_of}
 use Rattle.draining.proofs.Picks.{pick-moves, after_run, after-ends, after_same, after-count}
 use Rattle.draining.proofs.Running.{sum_read, fresh-moves}
 
-module _ (b list : List ℕ) (fine : start_fault b list ≡ Fine) where
+module _ (b list : List ℕ) (fine : start_fault b list ≡ Ok tt) where
   tabled : TabledFor (cabling_in b)
   tabled = start-fabric b list fine
 

@@ -1,4 +1,5 @@
 -- The loop of a drain: from where it is, it ends as from its start.
+use Rattle.std.specs.Prelude.{Ok}
 use mathlib.Core.Path.{◌≡◌, refl, sym, ◌∙◌, ap}
 use mathlib.Core.Bool.{true, false}
 use mathlib.Core.List.{List}
@@ -6,7 +7,6 @@ use Prim.Native.Nat.{ℕ, suc, ◌+◌, ◌*◌, ◌-◌, ◌<◌, min}
 use native.Mathlib.Omega.{arith}
 use lib.ListN.{length}
 use Rattle.finite.specs.Sum.{sum_to}
-use Rattle.refusal.specs.declared.Verdict.TheVariants.{Fine}
 use Rattle.lawful.specs.Entry.{route_of}
 use Rattle.cabling.specs.Cabling.{links}
 use Rattle.fabric.specs.Fabric.{fabric_of}
@@ -46,7 +46,7 @@ pub record Running (b list : List ℕ) (seed next : ℕ) (last : Record) : Type 
   pub run : RunFor (cabling_in b) list last
   pub ends : after (sum_of b list - last.moves) next last ≡ end_of b list seed
 
-module _ (b list : List ℕ) (fine : start_fault b list ≡ Fine) where
+module _ (b list : List ℕ) (fine : start_fault b list ≡ Ok tt) where
   pub running_fresh : (seed : ℕ) → Running b list seed seed (fresh_of b list)
   unfolding end_of
   running_fresh seed =

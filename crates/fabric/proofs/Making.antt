@@ -1,5 +1,7 @@
 -- The code's width is tied to N once: labels and tables made at 64 nodes are those of the cabling's own N, with zeros behind.
-use mathlib.Core.Path.{◌≡◌, sym, ◌∙◌, ap, ap₂}
+use Rattle.std.specs.Prelude.{Result, Ok, Err}
+use Rattle.refusal.specs.Verdicts.{Verdict}
+use mathlib.Core.Path.{◌≡◌, refl, sym, ◌∙◌, ap, ap₂}
 use mathlib.Core.Bool.{Bool, true, false}
 use mathlib.Core.List.{List}
 use Prim.Native.Nat.{ℕ, min}
@@ -13,8 +15,6 @@ use Rattle.nodes.specs.Limits.{max_nodes}
 use Rattle.network.specs.Table.{edge_of, table_of}
 use Rattle.lawful.specs.Turn.{label_in}
 use Rattle.refusal.specs.declared.Refusal.{Refusal}
-use Rattle.refusal.specs.declared.Verdict.{Verdict}
-use Rattle.refusal.specs.declared.Verdict.TheVariants.{Fine, Fault}
 use Rattle.lawful.proofs.Width.{entry_width}
 use Rattle.rule.specs.Labels.{labels_of}
 use Rattle.rule.proofs.Width.{labels_width}
@@ -23,8 +23,7 @@ use Rattle.rows.specs.Tables.{table_size, rows_of, tables_of}
 use Rattle.cabling.specs.Cabling.{Cabling, Good, links}
 use Rattle.cabling.proofs.Joined.{good-network, table-links}
 use Rattle.fabric.specs.declared.Fabric.{Fabric}
-use Rattle.fabric.specs.declared.Made.{Made}
-use Rattle.fabric.specs.Fabric.{labels_for, label_for, rows_for, fabric_of, bare_fabric, fabric_after, made_by}
+use Rattle.fabric.specs.Fabric.{labels_for, label_for, rows_for, fabric_of, made_by}
 use Rattle.fabric.proofs.Labels.{good-climbing}
 use Rattle.fabric.proofs.Arrays.{label_read}
 
@@ -60,27 +59,35 @@ module _ {c : Cabling} (g : Good c) where
 
 -- ---- the two outcomes
 
-pub made_fault : (c : Cabling) {v : Verdict} {r : Refusal} {f : Fabric} → v ≡ Fault r → f ≡ bare_fabric → record { verdict = Fault r; fabric = f } ≡ made_by v c
-unfolding made_by fabric_after
-made_fault c e b = rw (e, b)
-
-pub made-fine : (c : Cabling) {v : Verdict} {f : Fabric} → v ≡ Fine → f ≡ fabric_of c → record { verdict = Fine; fabric = f } ≡ made_by v c
-unfolding made_by fabric_after
-made-fine c e b = rw (e, b)
-
 -- the verdict may be said in another way
-pub made_as : (c : Cabling) {v w : Verdict} {m : Made} → m ≡ made_by v c → v ≡ w → m ≡ made_by w c
+pub made_as : (c : Cabling) {v w : Verdict} {m : Result Fabric Refusal} → m ≡ made_by v c → v ≡ w → m ≡ made_by w c
 made_as c e f = e ∙ ap (λ (x : Verdict). made_by x c) f
 
--- what is made tells its verdict, and where that is fine, its fabric
-pub made-verdict : (c : Cabling) {v : Verdict} {m : Made} → m ≡ made_by v c → m.verdict ≡ v
+pub made_fault : (c : Cabling) {v : Verdict} {r : Refusal} → v ≡ Err r → Err r ≡ made_by v c
 unfolding made_by
-made-verdict c e = ap (λ (x : Made). x.verdict) e
+made_fault c e = rw e
 
-pub made-fabric : (c : Cabling) {v : Verdict} {m : Made} → m ≡ made_by v c → v ≡ Fine → m.fabric ≡ fabric_of c
-unfolding made_by fabric_after
-made-fabric c e f = ap (λ (x : Made). x.fabric) e ∙ ap (λ (x : Verdict). fabric_after x c) f
+pub made-fine : (c : Cabling) {v : Verdict} {f : Fabric} → v ≡ Ok tt → f ≡ fabric_of c → Ok f ≡ made_by v c
+unfolding made_by
+made-fine c e b = rw (e, b)
+
+-- what is made tells its verdict, and where that is fine, its fabric
+err-made : (c : Cabling) (v : Verdict) {r : Refusal} → made_by v c ≡ Err r → v ≡ Err r
+unfolding made_by
+err-made c (Ok _) h = absurd (let z : ◌≡◌ {A = ℕ} 0 1 = cc in omega arith)
+err-made c (Err q) h = cc
+
+ok-made : (c : Cabling) (v : Verdict) {f : Fabric} → made_by v c ≡ Ok f → (v ≡ Ok tt) × (f ≡ fabric_of c)
+unfolding made_by
+ok-made c (Ok _) h = (refl, cc)
+ok-made c (Err q) h = absurd (let z : ◌≡◌ {A = ℕ} 0 1 = cc in omega arith)
+
+pub fault-made : (c : Cabling) {v : Verdict} {m : Result Fabric Refusal} {r : Refusal} → m ≡ made_by v c → m ≡ Err r → v ≡ Err r
+fault-made c e h = err-made c _ (sym e ∙ h)
+
+pub fine-made : (c : Cabling) {v : Verdict} {m : Result Fabric Refusal} {f : Fabric} → m ≡ made_by v c → m ≡ Ok f → (v ≡ Ok tt) × (f ≡ fabric_of c)
+fine-made c e h = ok-made c _ (sym e ∙ h)
 
 -- two answers that a promise allows are equal
-pub made_determined : (v : Verdict) (c : Cabling) (x y : Made) → x ≡ made_by v c → y ≡ made_by v c → x ≡ y
+pub made_determined : (v : Verdict) (c : Cabling) (x y : Result Fabric Refusal) → x ≡ made_by v c → y ≡ made_by v c → x ≡ y
 made_determined v c x y e f = e ∙ sym f

@@ -1,9 +1,9 @@
 -- What a cabling becomes: its labels and its rows, computed at the width of its own N; and the struct that holds them.
-use Rattle.std.specs.Prelude.{Bool, true, false, List, ℕ, replicate}
+use Rattle.std.specs.Prelude.{Bool, true, false, List, ℕ, Result, Ok, Err}
 use Rattle.finite.specs.Lists.{padded}
 use Rattle.nodes.specs.Limits.{max_nodes}
-use Rattle.refusal.specs.declared.Verdict.{Verdict}
-use Rattle.refusal.specs.declared.Verdict.TheVariants.{Fine, Fault}
+use Rattle.refusal.specs.declared.Refusal.{Refusal}
+use Rattle.refusal.specs.Verdicts.{Verdict}
 use Rattle.cabling.specs.Cabling.{Cabling, links}
 use Rattle.cabling.specs.Faults.{fault_of}
 use Rattle.rule.specs.Labels.{labels_of}
@@ -11,7 +11,6 @@ use Rattle.lawful.specs.Entry.{route_of}
 use Rattle.lawful.specs.Turn.{label_in}
 use Rattle.rows.specs.Tables.{table_size, rows_of}
 use Rattle.fabric.specs.declared.Fabric.{Fabric}
-use Rattle.fabric.specs.declared.Made.{Made}
 
 -- RULES 4.1: "Labels 1, 2, .. N are given in this order", by the labelling rule: the label of each node, and all of them
 abbrev pub labels_for : Cabling → List ℕ
@@ -37,18 +36,11 @@ fabric_of c = record {
   falling = padded table_size (rows_for c false);
 }
 
--- the fabric of no nodes
-unfoldable pub bare_fabric : Fabric
-bare_fabric = record { nodes = 0; labels = replicate max_nodes 0; free = replicate table_size 0; falling = replicate table_size 0 }
-
--- a verdict beside the fabric of what it was given for: the bare one where it is a fault
-unfoldable pub fabric_after : Verdict → Cabling → Fabric
-fabric_after Fine c = fabric_of c
-fabric_after (Fault r) c = bare_fabric
-
-unfoldable pub made_by : Verdict → Cabling → Made
-made_by v c = record { verdict = v; fabric = fabric_after v c }
+-- what a verdict makes of a cabling: its fabric, or the fault
+unfoldable pub made_by : Verdict → Cabling → Result Fabric Refusal
+made_by (Ok _) c = Ok (fabric_of c)
+made_by (Err r) c = Err r
 
 -- a cabling's
-abbrev pub made_of : Cabling → Made
+abbrev pub made_of : Cabling → Result Fabric Refusal
 made_of c = made_by (fault_of c) c

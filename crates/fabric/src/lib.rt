@@ -3,10 +3,10 @@
 
 ghost use Rattle.std.specs.Prelude.{◌≡◌};
 ghost use Rattle.cabling.specs.Cabling.{cabled, Good};
-ghost use Rattle.fabric.specs.Fabric.{fabric_of, bare_fabric, made_of};
+ghost use Rattle.fabric.specs.Fabric.{fabric_of, made_of};
 
 use nodes::MAX_NODES;
-use refusal::Verdict;
+use refusal::Refusal;
 use rows::TABLE;
 
 // Labels and rows stand at the front of their arrays, zeros behind.
@@ -16,27 +16,6 @@ pub struct Fabric {
     pub labels: [u8; MAX_NODES],
     pub free: [u8; TABLE],
     pub falling: [u8; TABLE],
-}
-
-// The verdict on a cabling, and its fabric: the bare one where there is a fault.
-#[derive(Clone, Copy)]
-pub struct Made {
-    pub verdict: Verdict,
-    pub fabric: Fabric,
-}
-
-// The fabric of no nodes.
-pub fn bare() -> Fabric
-    ensures { result ≡ bare_fabric }
-{
-    let labels = [0u8; MAX_NODES];
-    let rows = [0u8; TABLE];
-    Fabric {
-        nodes: 0,
-        labels,
-        free: rows,
-        falling: rows,
-    }
 }
 
 // The fabric of a good cabling.
@@ -57,19 +36,10 @@ fn good(n: usize, pairs: &[u8]) -> Fabric
     }
 }
 
-// The first fault of the cabling of n nodes and these pairs, or its fabric.
-pub fn make(n: usize, pairs: &[u8]) -> Made
+// The fabric of the cabling of n nodes and these pairs, or its first fault.
+pub fn make(n: usize, pairs: &[u8]) -> Result<Fabric, Refusal>
     ensures { result ≡ made_of (cabled n pairs.now) }
 {
-    let checked = cabling::fault(n, pairs);
-    match checked {
-        Verdict::Fault(r) => Made {
-            verdict: Verdict::Fault(r),
-            fabric: bare(),
-        },
-        Verdict::Fine => Made {
-            verdict: Verdict::Fine,
-            fabric: good(n, pairs),
-        },
-    }
+    cabling::fault(n, pairs)?;
+    Ok(good(n, pairs))
 }

@@ -1,4 +1,5 @@
 -- The checks of an image, case by case.
+use Rattle.std.specs.Prelude.{Err, Ok}
 use mathlib.Core.Path.{◌≡◌, sym, ◌∙◌}
 use mathlib.Core.Bool.{true, false}
 use mathlib.Core.List.{List}
@@ -11,7 +12,6 @@ use Rattle.finite.proofs.Truth.{bcase, refute, same-eq, same-ne, eq-same, ne_sam
 use Rattle.finite.proofs.Decide.{by, pass, fail}
 use Rattle.nodes.specs.Limits.{max_nodes}
 use Rattle.refusal.specs.declared.Refusal.TheVariants.{Contents, Count, Shape, Differs}
-use Rattle.refusal.specs.declared.Verdict.TheVariants.{Fine, Fault}
 use Rattle.refusal.specs.Verdicts.{and_then}
 use Rattle.refusal.proofs.Verdicts.{fine-fault, and_then_fine}
 use Rattle.cabling.specs.Cabling.{Good}
@@ -28,20 +28,20 @@ use Rattle.image.specs.Faults.{front_fault, cabling_fault, tables_fault, links_f
 module _ (b : List ℕ) where
   -- ---- 2 and 3
 
-  pub front-count : (nodes_in b < 2) ⊎ (max_nodes < nodes_in b) → front_fault b ≡ Fault Count
+  pub front-count : (nodes_in b < 2) ⊎ (max_nodes < nodes_in b) → front_fault b ≡ Err Count
   unfolding front_fault
   front-count h = rw (fail (decide_counted (nodes_in b)) h, front_fault)
 
-  pub front_shape : Counted (nodes_in b) → (zero_in b ≡ 0 → ⊥) → front_fault b ≡ Fault Shape
+  pub front_shape : Counted (nodes_in b) → (zero_in b ≡ 0 → ⊥) → front_fault b ≡ Err Shape
   unfolding front_fault
   front_shape c h = rw (pass (decide_counted (nodes_in b)) c, front_fault, ne_same h)
 
-  pub front-fine : Counted (nodes_in b) → zero_in b ≡ 0 → front_fault b ≡ Fine
+  pub front-fine : Counted (nodes_in b) → zero_in b ≡ 0 → front_fault b ≡ Ok tt
   unfolding front_fault
   front-fine c h = rw (pass (decide_counted (nodes_in b)) c, front_fault, eq-same h)
 
   -- a front without a fault has a zero byte
-  pub front-zero : front_fault b ≡ Fine → zero_in b ≡ 0
+  pub front-zero : front_fault b ≡ Ok tt → zero_in b ≡ 0
   front-zero h =
       bcase (same (zero_in b) 0) (λ t. same-eq _ _ t)
       (λ t.
@@ -49,27 +49,27 @@ module _ (b : List ℕ) where
       (λ c. fine-fault h (front-count c)))
 
   -- a cabling without a fault is good, and its second byte is zero
-  pub cabling-good : cabling_fault b ≡ Fine → Good (cabling_in b) × (zero_in b ≡ 0)
+  pub cabling-good : cabling_fault b ≡ Ok tt → Good (cabling_in b) × (zero_in b ≡ 0)
   cabling-good h = let (f, c) = and_then_fine (front_fault b) (fault_of (cabling_in b)) h in ((fault-fine (cabling_in b)).0 c, front-zero f)
 
   -- ---- 8, 1, and the order of all
 
-  pub tables-fine : same_bodies b 1 (drop 1 (bodies_of (cabling_in b))) ≡ true → tables_fault b ≡ Fine
+  pub tables-fine : same_bodies b 1 (drop 1 (bodies_of (cabling_in b))) ≡ true → tables_fault b ≡ Ok tt
   unfolding tables_fault
   tables-fine h = rw (h, tables_fault)
 
-  pub tables-differ : same_bodies b 1 (drop 1 (bodies_of (cabling_in b))) ≡ false → tables_fault b ≡ Fault Differs
+  pub tables-differ : same_bodies b 1 (drop 1 (bodies_of (cabling_in b))) ≡ false → tables_fault b ≡ Err Differs
   unfolding tables_fault
   tables-differ h = rw (h, tables_fault)
 
-  pub tables-same : tables_fault b ≡ Fine → same_bodies b 1 (drop 1 (bodies_of (cabling_in b))) ≡ true
+  pub tables-same : tables_fault b ≡ Ok tt → same_bodies b 1 (drop 1 (bodies_of (cabling_in b))) ≡ true
   tables-same h = bcase (same_bodies b 1 (drop 1 (bodies_of (cabling_in b)))) (λ t. t) (λ f. fine-fault h (tables-differ f))
 
   pub links-ordered : in_order b links_kinds ≡ true → links_fault b ≡ cabling_fault b
   unfolding links_fault
   links-ordered h = rw (h, links_fault)
 
-  pub links-broken : in_order b links_kinds ≡ false → links_fault b ≡ Fault Contents
+  pub links-broken : in_order b links_kinds ≡ false → links_fault b ≡ Err Contents
   unfolding links_fault
   links-broken h = rw (h, links_fault)
 
@@ -89,6 +89,6 @@ module _ (b : List ℕ) where
   image-ordered l = image-links (not-both l) ∙ links-ordered l
 
   -- what a fine verdict says
-  pub links-fine : links_fault b ≡ Fine → (in_order b links_kinds ≡ true) × (cabling_fault b ≡ Fine)
+  pub links-fine : links_fault b ≡ Ok tt → (in_order b links_kinds ≡ true) × (cabling_fault b ≡ Ok tt)
   links-fine h =
       bcase (in_order b links_kinds) (λ t. (t, sym (links-ordered t) ∙ h)) (λ t. fine-fault h (links-broken t))

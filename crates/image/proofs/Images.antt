@@ -1,4 +1,5 @@
 -- Images in whole: how long they are, that what is written is read back, and that only such images are accepted.
+use Rattle.std.specs.Prelude.{Ok}
 use mathlib.Core.Path.{◌≡◌, sym, ◌∙◌, ap, ap₂}
 use mathlib.Core.Bool.{Bool, true, false}
 use mathlib.Core.List.{List, [], ◌∷◌}
@@ -8,7 +9,6 @@ use native.Mathlib.Omega.{arith}
 use lib.ListN.{length, drop}
 use Rattle.finite.proofs.Truth.{bcase}
 use Rattle.nodes.specs.Limits.{max_nodes, max_links}
-use Rattle.refusal.specs.declared.Verdict.TheVariants.{Fine}
 use Rattle.refusal.proofs.Verdicts.{then-fine, and_then_fine}
 use Rattle.cabling.specs.Cabling.{Cabling, cabled, Good}
 use Rattle.cabling.specs.Faults.{fault_of}
@@ -81,7 +81,7 @@ module _ (c : Cabling) (g : Good c) where
   read_zero false = from_zero c.nodes 0 c.pairs [] (small false)
 
   -- it has no fault
-  cabling-accepted : (full : Bool) → cabling_fault (image_of (kinds_of full) c) ≡ Fine
+  cabling-accepted : (full : Bool) → cabling_fault (image_of (kinds_of full) c) ≡ Ok tt
   cabling-accepted full =
       let e = ap (λ (x : Cabling). x.nodes) (read_cabling full) in
       let many = g.many in
@@ -97,28 +97,28 @@ module _ (c : Cabling) (g : Good c) where
   unfolding bodies_of bodies_from
   tables-back = ap (drop 1) full-bodies
 
-  tables-accepted : tables_fault (image_of full_kinds c) ≡ Fine
+  tables-accepted : tables_fault (image_of full_kinds c) ≡ Ok tt
   unfolding bodies_of
   tables-accepted =
       let e : drop 1 (bodies_of (cabling_in (image_of full_kinds c))) ≡ table_bodies c = ap (λ (x : Cabling). drop 1 (bodies_of x)) (read_cabling true) in
       tables-fine _ (rw e ((same-bodies-iff (image_of full_kinds c) 1 (table_bodies c)).1 tables-back))
 
-  pub links-accepted : links_fault (image_of links_kinds c) ≡ Fine
+  pub links-accepted : links_fault (image_of links_kinds c) ≡ Ok tt
   links-accepted = links-ordered _ links-kinds ∙ cabling-accepted false
 
-  pub image-accepted : (full : Bool) → image_fault (image_of (kinds_of full) c) ≡ Fine
+  pub image-accepted : (full : Bool) → image_fault (image_of (kinds_of full) c) ≡ Ok tt
   image-accepted true = image-full _ full-kinds ∙ then-fine _ (cabling-accepted true) ∙ tables-accepted
   image-accepted false = image-ordered _ links-kinds ∙ cabling-accepted false
 
 -- ---- only such images are accepted
 
 -- what is accepted has a good cabling and a zero byte
-accepted-front : (b : List ℕ) → image_fault b ≡ Fine → Good (cabling_in b) × (zero_in b ≡ 0)
+accepted-front : (b : List ℕ) → image_fault b ≡ Ok tt → Good (cabling_in b) × (zero_in b ≡ 0)
 accepted-front b h =
     bcase (in_order b full_kinds) (λ t. cabling-good b (and_then_fine _ _ (sym (image-full b t) ∙ h)).0)
     (λ t. cabling-good b (links-fine b (sym (image-links b t) ∙ h)).1)
 
-pub accepted-good : (b : List ℕ) → image_fault b ≡ Fine → Good (cabling_in b)
+pub accepted-good : (b : List ℕ) → image_fault b ≡ Ok tt → Good (cabling_in b)
 accepted-good b h = (accepted-front b h).0
 
 -- the bytes of an image in order, from its cabling and its other bodies
@@ -132,7 +132,7 @@ full-same b byte h z e =
     in_order_image b 3 byte h ∙ ap₂ (λ (x : ℕ) (t : List (List ℕ)). image_from ((nodes_in b ∷ x ∷ pairs_in b) ∷ t)) z e
 
 -- writing what was read gives back the same bytes
-pub accepted : (b : List ℕ) → AllBytes b → image_fault b ≡ Fine → b ≡ image_of (kinds_of (in_order b full_kinds)) (cabling_in b)
+pub accepted : (b : List ℕ) → AllBytes b → image_fault b ≡ Ok tt → b ≡ image_of (kinds_of (in_order b full_kinds)) (cabling_in b)
 unfolding bodies_of
 accepted b byte h =
     let z = (accepted-front b h).1 in
@@ -143,14 +143,14 @@ accepted b byte h =
     (λ t. rw t (links-same b byte (links-fine b (sym (image-links b t) ∙ h)).0 z))
 
 -- and of a links image alone
-pub accepted-links : (b : List ℕ) → AllBytes b → links_fault b ≡ Fine → Good (cabling_in b) × (b ≡ image_of links_kinds (cabling_in b))
+pub accepted-links : (b : List ℕ) → AllBytes b → links_fault b ≡ Ok tt → Good (cabling_in b) × (b ≡ image_of links_kinds (cabling_in b))
 accepted-links b byte h =
     let (order, cabling) = links-fine b h in
     let (g, z) = cabling-good b cabling in
     (g, links-same b byte order z)
 
 -- an image is accepted exactly when it is that of a good cabling, full or links only
-pub accepted_exactly : (b : List ℕ) → AllBytes b → (image_fault b ≡ Fine) ↔ ((full : Bool) × (c : Cabling) × Good c × (b ≡ image_of (kinds_of full) c))
+pub accepted_exactly : (b : List ℕ) → AllBytes b → (image_fault b ≡ Ok tt) ↔ ((full : Bool) × (c : Cabling) × Good c × (b ≡ image_of (kinds_of full) c))
 accepted_exactly b byte = (
   λ h. (in_order b full_kinds, cabling_in b, accepted-good b h, accepted b byte h),
   λ s. let (full, c, g, e) = s in ap image_fault e ∙ image-accepted c g full,

@@ -1,4 +1,6 @@
 -- The verdicts on an image mean what RULES 9.1 says: each is given exactly where its row of specs/Verdicts.antt holds.
+use Rattle.std.specs.Prelude.{Err, Ok}
+use Rattle.refusal.specs.Verdicts.{Verdict}
 use mathlib.Core.Path.{◌≡◌, refl, sym, ◌∙◌, subst}
 use mathlib.Core.Bool.{Bool, true, false}
 use mathlib.Core.List.{List}
@@ -9,8 +11,6 @@ use Rattle.finite.specs.Truth.{same}
 use Rattle.finite.proofs.Truth.{no_tf, bcase, refute, same-eq, same-ne}
 use Rattle.finite.proofs.Decide.{by}
 use Rattle.refusal.specs.declared.Refusal.TheVariants.{Short}
-use Rattle.refusal.specs.declared.Verdict.{Verdict}
-use Rattle.refusal.specs.declared.Verdict.TheVariants.{Fine, Fault}
 use Rattle.refusal.proofs.Verdicts.{then-fine, then-fault}
 use Rattle.cabling.specs.Verdicts.{Means, means_count}
 use Rattle.cabling.proofs.Tests.{decide_counted}
@@ -100,8 +100,8 @@ module _ (b : List ℕ) where
 
   -- the row of an image with the contents of a full one
   full-row : in_order b full_kinds ≡ true → (v : Verdict) → cabling_fault b ≡ v → OfEither b (image_fault b)
-  full-row t (Fault r) e = subst (OfEither b) (sym (image-full b t ∙ then-fault _ e)) (faulty (in_words full_kinds t) (kind-one_as e))
-  full-row t Fine e =
+  full-row t (Err r) e = subst (OfEither b) (sym (image-full b t ∙ then-fault _ e)) (faulty (in_words full_kinds t) (kind-one_as e))
+  full-row t (Ok _) e =
       let k = kind-one_as e in
       let h = image-full b t ∙ then-fine _ e in
       bcase agreeing (λ a. subst (OfEither b) (sym (h ∙ tables-fine b a)) (full (in_words full_kinds t) k (agree_rules a)))
@@ -120,21 +120,21 @@ module _ (b : List ℕ) where
   either_means v = (λ e. subst (OfEither b) e either_row, either_given)
 
   -- 9 is no verdict on an image
-  no_short : KindOne b (Fault Short) → ⊥
+  no_short : KindOne b (Err Short) → ⊥
   no_short (cabling z m) = none m
     where
-      none : Means (cabling_in b) (Fault Short) → ⊥
+      none : Means (cabling_in b) (Err Short) → ⊥
       none = elim [ ]
 
-  pub links-not-short : links_fault b ≡ Fault Short → ⊥
-  links-not-short e = links-none ((links_means (Fault Short)).0 e)
+  pub links-not-short : links_fault b ≡ Err Short → ⊥
+  links-not-short e = links-none ((links_means (Err Short)).0 e)
     where
-      links-none : OfLinks b (Fault Short) → ⊥
+      links-none : OfLinks b (Err Short) → ⊥
       links-none (ordered w k) = no_short k
 
-  pub image-not-short : image_fault b ≡ Fault Short → ⊥
-  image-not-short e = either_none ((either_means (Fault Short)).0 e)
+  pub image-not-short : image_fault b ≡ Err Short → ⊥
+  image-not-short e = either_none ((either_means (Err Short)).0 e)
     where
-      either_none : OfEither b (Fault Short) → ⊥
+      either_none : OfEither b (Err Short) → ⊥
       either_none (links w k) = no_short k
       either_none (faulty w k) = no_short k

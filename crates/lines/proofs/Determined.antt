@@ -1,13 +1,12 @@
 -- The promises of this crate's calls determine their answers and what they leave.
+use Rattle.std.specs.Prelude.{Err, Ok}
 use mathlib.Core.Path.{◌≡◌, sym, ◌∙◌}
 use mathlib.Core.List.{List}
 use Prim.Native.Nat.{ℕ}
 use Rattle.laid.specs.Laid.{Page, page}
 use Rattle.laid.proofs.Determined.{page_determined}
 use Rattle.refusal.specs.declared.Refusal.{Refusal}
-use Rattle.results.specs.declared.Written.{Written}
-use Rattle.results.specs.declared.Written.TheVariants.{Bytes, NotWritten}
-use Rattle.results.specs.Written.{Writes, room_for}
+use Rattle.results.specs.Written.{Writes, room_for, Written}
 use Rattle.results.proofs.Determined.{writes_determined}
 use Rattle.lines.specs.Lines.{with_field, with_fields, with_line, refusal_line, longest_refusal, Told}
 
@@ -26,5 +25,5 @@ pub refusal_line_determined : (r : Refusal) {before l m : List ℕ} {a b : Writt
 refusal_line_determined r = writes_determined
 
 pub told_determined : (x : Written) (before : List ℕ) {l m : List ℕ} {a b : Written} → Told x before a l → Told x before b m → (a ≡ b) × (l ≡ m)
-told_determined (Bytes k) before (e, p) (f, q) = (e ∙ sym f, p ∙ sym q)
-told_determined (NotWritten r) before w v = writes_determined w v
+told_determined (Ok k) before (e, p) (f, q) = (e ∙ sym f, p ∙ sym q)
+told_determined (Err r) before w v = writes_determined w v

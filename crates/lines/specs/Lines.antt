@@ -1,13 +1,10 @@
 -- RULES 10.1: "Fields of a printed line are one space apart, and a line feed ends it."
-use Rattle.std.specs.Prelude.{◌≡◌, List, [], ◌∷◌, ◌++◌, ℕ, ◌+◌, ◌*◌}
+use Rattle.std.specs.Prelude.{◌≡◌, List, [], ◌∷◌, ◌++◌, ℕ, ◌+◌, ◌*◌, Err, Ok}
+use Rattle.refusal.specs.Verdicts.{Verdict}
 use Rattle.laid.specs.Laid.{Page, behind}
 use Rattle.refusal.specs.declared.Refusal.{Refusal}
-use Rattle.refusal.specs.declared.Verdict.{Verdict}
-use Rattle.refusal.specs.declared.Verdict.TheVariants.{Fine, Fault}
 use Rattle.refusal.specs.Number.{number_of, place_of}
-use Rattle.results.specs.declared.Written.{Written}
-use Rattle.results.specs.declared.Written.TheVariants.{Bytes, NotWritten}
-use Rattle.results.specs.Written.{Writes, room_for}
+use Rattle.results.specs.Written.{Writes, room_for, Written}
 use Rattle.text.specs.Text.{decimal_of}
 
 -- a number as a further field: a space before it
@@ -48,10 +45,10 @@ longest_refusal = 7 + 2 * (1 + 21) + 1
 
 -- what a call wrote stays, and of a refusal its line is written: what becomes of the buffer, and the answer
 abbrev pub Told : Written → List ℕ → Written → List ℕ → Type 0
-Told (Bytes m) before answer after = (answer ≡ Bytes m) × (after ≡ before)
-Told (NotWritten r) before answer after = Writes (room_for longest_refusal before) (refusal_line r) before answer after
+Told (Ok m) before answer after = (answer ≡ Ok m) × (after ≡ before)
+Told (Err r) before answer after = Writes (room_for longest_refusal before) (refusal_line r) before answer after
 
 -- RULES 10.1: "On a refusal it prints only `refused`, number, place.": these bytes, or the line of the refusal
 unfoldable pub or_refused : Verdict → List ℕ → List ℕ
-or_refused Fine bytes = bytes
-or_refused (Fault r) bytes = refusal_line r
+or_refused (Ok _) bytes = bytes
+or_refused (Err r) bytes = refusal_line r

@@ -1,4 +1,6 @@
 -- Sentences about read: reading and writing are exact inverses, and 9 is given exactly when.
+use Rattle.std.specs.Prelude.{Ok}
+use Rattle.refusal.specs.Verdicts.{Verdict}
 use mathlib.Core.Path.{◌≡◌, sym, ◌∙◌, ap, ap₂}
 use mathlib.Core.Bool.{Bool}
 use mathlib.Core.List.{List}
@@ -7,15 +9,11 @@ use native.Mathlib.Omega.{arith}
 use lib.ListN.{length, take}
 use borrow.Author.Tests.{le-leb}
 use Rattle.refusal.specs.declared.Refusal.TheVariants.{Short}
-use Rattle.refusal.specs.declared.Verdict.{Verdict}
-use Rattle.refusal.specs.declared.Verdict.TheVariants.{Fine}
 use Rattle.cabling.specs.Cabling.{Cabling, cabled, Good}
 use Rattle.cabling.specs.Faults.{fault_of}
 use Rattle.cabling.proofs.Meaning.{fault-fine}
 use Rattle.format.specs.Contents.{pairs_in}
-use Rattle.results.specs.declared.Written.{Written}
-use Rattle.results.specs.declared.Written.TheVariants.{Bytes}
-use Rattle.results.specs.Written.{placed, written_of, written_into, Writes}
+use Rattle.results.specs.Written.{placed, written_of, written_into, Writes, Written}
 use Rattle.results.proofs.Meaning.{short_means}
 use Rattle.results.proofs.Placed.{written-whole}
 use Rattle.image.specs.Image.{image_of, kinds_of, cabling_in}
@@ -47,7 +45,7 @@ module _ (c : Cabling) (g : Good c) {before after : List ℕ} where
 pub write_read : (b before after : List ℕ) (n m : ℕ) (full : Bool) → Reads b before (Read n m full) after
     → {room left : List ℕ} {r : Written} → length b ≤ length room
     → Writes (fault_of (cabled n (take (2 * m) after))) (image_of (kinds_of full) (cabled n (take (2 * m) after))) room r left
-    → (r ≡ Bytes (length b)) × (left ≡ placed b room)
+    → (r ≡ Ok (length b)) × (left ≡ placed b room)
 write_read b before after n m full c {room} {left} {r} h w =
     let f = read_front b before after n m full c in
     let g = accepted-good b f.fine in
@@ -61,9 +59,9 @@ write_read b before after n m full c {room} {left} {r} h w =
 
 -- ---- 9, RULES 9.1, "given exactly when": the verdict is fine and the result is longer than the buffer
 
-pub read_short : (b before after : List ℕ) → Reads b before (NotRead Short) after → (image_fault b ≡ Fine) × (length before < length (pairs_in b))
+pub read_short : (b before after : List ℕ) → Reads b before (NotRead Short) after → (image_fault b ≡ Ok tt) × (length before < length (pairs_in b))
 read_short b before after c = (short_means _ _ (image_fault b) (image-not-short b)).0 (read_refused b before after Short c)
 
-pub short_read : (b before after : List ℕ) {r : Outcome} → image_fault b ≡ Fine → length before < length (pairs_in b) → Reads b before r after → r ≡ NotRead Short
+pub short_read : (b before after : List ℕ) {r : Outcome} → image_fault b ≡ Ok tt → length before < length (pairs_in b) → Reads b before r after → r ≡ NotRead Short
 short_read b before after e h c =
     c.answers ∙ ap (outcome_of b) ((short_means _ _ (image_fault b) (image-not-short b)).1 (e, h)) ∙ sym (outcome-refused b Short)

@@ -1,4 +1,5 @@
 -- What `read` answers, from what it wrote; what a refused read and a read that answers leave.
+use Rattle.std.specs.Prelude.{Err, Ok}
 use mathlib.Core.Path.{◌≡◌, refl, sym, ◌∙◌, ap}
 use mathlib.Core.Bool.{Bool}
 use mathlib.Core.List.{List}
@@ -6,12 +7,9 @@ use Prim.Native.Nat.{ℕ, ◌/◌}
 use native.Mathlib.Omega.{arith}
 use lib.ListN.{length, take, drop}
 use Rattle.refusal.specs.declared.Refusal.{Refusal}
-use Rattle.refusal.specs.declared.Verdict.TheVariants.{Fine}
 use Rattle.format.specs.Contents.{in_order, full_kinds, nodes_in, pairs_in}
 use Rattle.format.specs.Bytes.{AllBytes}
-use Rattle.results.specs.declared.Written.{Written}
-use Rattle.results.specs.declared.Written.TheVariants.{Bytes, NotWritten}
-use Rattle.results.specs.Written.{written_of, Writes}
+use Rattle.results.specs.Written.{written_of, Writes, Written}
 use Rattle.results.proofs.Meaning.{refused-untouched, written-front, not-refused, written-size}
 use Rattle.image.specs.Faults.{image_fault}
 use Rattle.reading.specs.Reads.{outcome_of, Reads}
@@ -19,11 +17,11 @@ use Rattle.reading.specs.declared.Outcome.{Outcome}
 use Rattle.reading.specs.declared.Outcome.TheVariants.{Read, NotRead}
 
 module _ (b : List ℕ) where
-  pub outcome-refused : (r : Refusal) → NotRead r ≡ outcome_of b (NotWritten r)
+  pub outcome-refused : (r : Refusal) → NotRead r ≡ outcome_of b (Err r)
   unfolding outcome_of
   outcome-refused r = refl
 
-  pub outcome_read : (m : ℕ) → Read (nodes_in b) (m / 2) (in_order b full_kinds) ≡ outcome_of b (Bytes m)
+  pub outcome_read : (m : ℕ) → Read (nodes_in b) (m / 2) (in_order b full_kinds) ≡ outcome_of b (Ok m)
   unfolding outcome_of
   outcome_read m = refl
 
@@ -39,26 +37,26 @@ read_not_refused : {n m : ℕ} {f : Bool} {r : Refusal} → NotRead r ≡ Read n
 read_not_refused e = let z : ◌≡◌ {A = ℕ} 0 1 = cc in omega arith
 
 -- what was written, from what is answered
-refused_wrote : (b : List ℕ) {r : Refusal} (w : Written) → NotRead r ≡ outcome_of b w → w ≡ NotWritten r
+refused_wrote : (b : List ℕ) {r : Refusal} (w : Written) → NotRead r ≡ outcome_of b w → w ≡ Err r
 unfolding outcome_of
-refused_wrote b (Bytes m) e = absurd (read_not_refused e)
-refused_wrote b (NotWritten q) e = cc
+refused_wrote b (Ok m) e = absurd (read_not_refused e)
+refused_wrote b (Err q) e = cc
 
 record Wrote (b : List ℕ) (w : Written) (n m : ℕ) (full : Bool) : Type 0 where
   size : ℕ
-  is : w ≡ Bytes size
+  is : w ≡ Ok size
   nodes : n ≡ nodes_in b
   links : m ≡ size / 2
   kind : full ≡ in_order b full_kinds
 
 read_wrote : (b : List ℕ) {n m : ℕ} {full : Bool} (w : Written) → Read n m full ≡ outcome_of b w → Wrote b w n m full
 unfolding outcome_of
-read_wrote b (Bytes k) e = record { size = k; is = refl; nodes = cc; links = cc; kind = cc }
-read_wrote b (NotWritten q) e = absurd (read_not_refused (sym e))
+read_wrote b (Ok k) e = record { size = k; is = refl; nodes = cc; links = cc; kind = cc }
+read_wrote b (Err q) e = absurd (read_not_refused (sym e))
 
 -- what a read that answers says: the image has no fault; N, M and the kind are its own; the pairs stand at the front, and the bytes behind stay
 pub record WasRead (b before after : List ℕ) (n m : ℕ) (full : Bool) : Type 0 where
-  pub fine : image_fault b ≡ Fine
+  pub fine : image_fault b ≡ Ok tt
   pub nodes : n ≡ nodes_in b
   pub links : m ≡ length (pairs_in b) / 2
   pub kind : full ≡ in_order b full_kinds
@@ -66,7 +64,7 @@ pub record WasRead (b before after : List ℕ) (n m : ℕ) (full : Bool) : Type 
   pub behind : drop (length (pairs_in b)) after ≡ drop (length (pairs_in b)) before
 
 module _ (b before after : List ℕ) where
-  pub read_refused : (r : Refusal) → Reads b before (NotRead r) after → written_of (image_fault b) (pairs_in b) (length before) ≡ NotWritten r
+  pub read_refused : (r : Refusal) → Reads b before (NotRead r) after → written_of (image_fault b) (pairs_in b) (length before) ≡ Err r
   read_refused r c = refused_wrote b _ c.answers
 
   -- RULES 9.3: "Buffers and record stay as they were."

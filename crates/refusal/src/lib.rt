@@ -32,47 +32,44 @@ pub enum Refusal {
     Line(usize),
 }
 
-// What a check finds: nothing, or the first fault.
-#[derive(Clone, Copy)]
-pub enum Verdict {
-    Fine,
-    Fault(Refusal),
-}
-
-pub fn number(r: Refusal) -> usize
-    ensures { result ≡ number_of r }
-{
-    match r {
-        Refusal::Contents => 1,
-        Refusal::Count => 2,
-        Refusal::Shape => 3,
-        Refusal::Ends(_) => 4,
-        Refusal::Order(_) => 5,
-        Refusal::Crowded(_) => 6,
-        Refusal::Apart(_) => 7,
-        Refusal::Differs => 8,
-        Refusal::Short => 9,
-        Refusal::Unknown(_) => 10,
-        Refusal::Messages => 11,
-        Refusal::Line(_) => 12,
+impl Refusal {
+    // The number of its row.
+    pub fn number(self) -> usize
+        ensures { result ≡ number_of self }
+    {
+        match self {
+            Refusal::Contents => 1,
+            Refusal::Count => 2,
+            Refusal::Shape => 3,
+            Refusal::Ends(_) => 4,
+            Refusal::Order(_) => 5,
+            Refusal::Crowded(_) => 6,
+            Refusal::Apart(_) => 7,
+            Refusal::Differs => 8,
+            Refusal::Short => 9,
+            Refusal::Unknown(_) => 10,
+            Refusal::Messages => 11,
+            Refusal::Line(_) => 12,
+        }
     }
-}
 
-pub fn place(r: Refusal) -> usize
-    ensures { result ≡ place_of r }
-{
-    match r {
-        Refusal::Contents => 0,
-        Refusal::Count => 0,
-        Refusal::Shape => 0,
-        Refusal::Ends(p) => p,
-        Refusal::Order(p) => p,
-        Refusal::Crowded(v) => v,
-        Refusal::Apart(v) => v,
-        Refusal::Differs => 0,
-        Refusal::Short => 0,
-        Refusal::Unknown(p) => p,
-        Refusal::Messages => 0,
-        Refusal::Line(i) => i,
+    // The place of the fault, 0 where its row has none.
+    pub fn place(self) -> usize
+        ensures { result ≡ place_of self }
+    {
+        match self {
+            Refusal::Contents => 0,
+            Refusal::Count => 0,
+            Refusal::Shape => 0,
+            Refusal::Ends(p) => p,
+            Refusal::Order(p) => p,
+            Refusal::Crowded(v) => v,
+            Refusal::Apart(v) => v,
+            Refusal::Differs => 0,
+            Refusal::Short => 0,
+            Refusal::Unknown(p) => p,
+            Refusal::Messages => 0,
+            Refusal::Line(i) => i,
+        }
     }
 }

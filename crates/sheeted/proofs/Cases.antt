@@ -4,8 +4,7 @@ use Prim.Native.Nat.{ℕ, ◌≤◌}
 use lib.Dec.{lit≤}
 use lib.ListN.{length}
 use Rattle.format.specs.Contents.{links_kinds}
-use Rattle.results.specs.declared.Written.{Written}
-use Rattle.results.specs.Written.{Writes, room_for}
+use Rattle.results.specs.Written.{Writes, room_for, Written}
 use Rattle.image.specs.Image.{image_of, cabling_in}
 use Rattle.image.specs.Longest.{longest_links}
 use Rattle.image.proofs.Images.{links-fit}

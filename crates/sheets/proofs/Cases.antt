@@ -1,4 +1,6 @@
 -- The verdict on a sheet and its links image, from its first line, the lines of links and the pairs that are held of them; and the sheet of a links image.
+use Rattle.std.specs.Prelude.{Err, Ok}
+use Rattle.refusal.specs.Verdicts.{Verdict}
 use mathlib.Core.Path.{◌≡◌, sym, ◌∙◌, ap, ap₂}
 use mathlib.Core.List.{List, [], ◌∷◌}
 use Prim.Native.Nat.{ℕ, ◌*◌, ◌≤◌, ◌<◌}
@@ -6,8 +8,6 @@ use lib.ListN.{length, get_or, take, drop}
 use Rattle.nodes.specs.Limits.{max_links}
 use Rattle.refusal.specs.declared.Refusal.{Refusal}
 use Rattle.refusal.specs.declared.Refusal.TheVariants as refusal
-use Rattle.refusal.specs.declared.Verdict.{Verdict}
-use Rattle.refusal.specs.declared.Verdict.TheVariants.{Fine, Fault}
 use Rattle.refusal.proofs.Verdicts.{then-fine, then-fault}
 use Rattle.cabling.specs.Cabling.{cabled}
 use Rattle.cabling.specs.Faults.{fault_of}
@@ -17,9 +17,7 @@ use Rattle.format.specs.Contents.{links_kinds, nodes_in, pairs_in}
 use Rattle.format.specs.Bytes.{AllBytes}
 use Rattle.laid.specs.Laid.{Page, page}
 use Rattle.laid.proofs.Pieces.{lays-front}
-use Rattle.results.specs.declared.Written.{Written}
-use Rattle.results.specs.declared.Written.TheVariants.{NotWritten}
-use Rattle.results.specs.Written.{Writes}
+use Rattle.results.specs.Written.{Writes, Written}
 use Rattle.results.proofs.Placed.{writes_where, fault-writes, fine-writes}
 use Rattle.image.specs.Image.{image_of, cabling_in}
 use Rattle.image.specs.Faults.{links_fault}
@@ -38,12 +36,12 @@ use Rattle.sheets.proofs.Printing.{sheet-lays}
 use Rattle.sheets.proofs.Lines.{first_fine, first_bad, lines-missing}
 
 -- no first line
-none_first : (s : List ℕ) → size_in 1 s ≡ 0 → lines_fault (lines_of s) ≡ Fault (refusal.Line 0)
+none_first : (s : List ℕ) → size_in 1 s ≡ 0 → lines_fault (lines_of s) ≡ Err (refusal.Line 0)
 none_first [] h = ap lines_fault lines_none ∙ lines-missing
 none_first (x ∷ s) h = let (l, ls, e) = lines-some x s in ap lines_fault e ∙ first_bad l ls (front-none 1 (x ∷ s) h e)
 
 module _ (s : List ℕ) {first : FirstLine} (e : first ≡ one_in s) where
-  pub cable_none : first.size ≡ 0 → sheet_fault s ≡ Fault (refusal.Line 0)
+  pub cable_none : first.size ≡ 0 → sheet_fault s ≡ Err (refusal.Line 0)
   unfolding one_in sheet_fault
   cable_none h = then-fault _ (none_first s (sym (ap (λ (x : FirstLine). x.size) e) ∙ h))
 
@@ -67,11 +65,11 @@ module _ (s : List ℕ) {first : FirstLine} (e : first ≡ one_in s) where
 
     -- what reading the lines of links answers
     module _ {v : Verdict} {size : ℕ} {before after : List ℕ} (h : Holds (lines_of t) before v size after) where
-      pub cable_bad : {r : Refusal} → v ≡ Fault r → sheet_fault s ≡ Fault r
+      pub cable_bad : {r : Refusal} → v ≡ Err r → sheet_fault s ≡ Err r
       unfolding sheet_fault
       cable_bad q = then-fault _ (lines-verdict ∙ sym h.answers ∙ q)
 
-      pub cable_writes : {room left pairs : List ℕ} {answer : Written} → v ≡ Fine → 2 * max_links < length before → pairs ≡ take size after
+      pub cable_writes : {room left pairs : List ℕ} {answer : Written} → v ≡ Ok tt → 2 * max_links < length before → pairs ≡ take size after
           → Writes (fault_of (cabled first.first pairs)) (image_of links_kinds (cabled first.first pairs)) room answer left
           → Cables s room answer left
       unfolding sheet_fault
@@ -90,13 +88,13 @@ module _ (s : List ℕ) {first : FirstLine} (e : first ≡ one_in s) where
 -- ---- the sheet of a links image
 
 module _ (b : List ℕ) (byte : AllBytes b) {before : List ℕ} where
-  pub sheet-refused : {r : Refusal} → links_fault b ≡ Fault r → Sheets b before (NotWritten r) before
+  pub sheet-refused : {r : Refusal} → links_fault b ≡ Err r → Sheets b before (Err r) before
   sheet-refused e = record { writes = fault-writes e; bytes = byte }
 
   -- its lines were laid into a blank buffer with room, and their bytes placed
-  pub sheet-writes : {n : ℕ} {pairs text after : List ℕ} {p : Page} {answer : Written} (blank : List ℕ) → links_fault b ≡ Fine → n ≡ nodes_in b → pairs ≡ pairs_in b
+  pub sheet-writes : {n : ℕ} {pairs text after : List ℕ} {p : Page} {answer : Written} (blank : List ℕ) → links_fault b ≡ Ok tt → n ≡ nodes_in b → pairs ≡ pairs_in b
       → longest_sheet ≤ length blank → p ≡ with_sheet (page blank 0) (cabled n pairs) → text ≡ take p.at p.bytes
-      → Writes Fine text before answer after → Sheets b before answer after
+      → Writes (Ok tt) text before answer after → Sheets b before answer after
   sheet-writes {n} {pairs} blank e en ep room laid front w =
       let c : cabled n pairs ≡ cabling_in b = ap₂ cabled en ep in
       let l = sheet-lays (cabling-good b (links-fine b e).1).0 room (laid ∙ ap (with_sheet (page blank 0)) c) in

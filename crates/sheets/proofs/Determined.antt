@@ -1,8 +1,8 @@
 -- The promises of cable and sheet leave one outcome: any two that they allow are equal, answer and buffer.
+use Rattle.results.specs.Written.{Written}
 use mathlib.Core.Path.{◌≡◌}
 use mathlib.Core.List.{List}
 use Prim.Native.Nat.{ℕ}
-use Rattle.results.specs.declared.Written.{Written}
 use Rattle.results.proofs.Determined.{writes_determined}
 use Rattle.sheets.specs.Promises.{Cables, Sheets}
 

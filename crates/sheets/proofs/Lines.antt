@@ -1,4 +1,6 @@
 -- The verdict on lines, line by line: all are as they must be, or the first that is not is told.
+use Rattle.std.specs.Prelude.{Err, Ok}
+use Rattle.refusal.specs.Verdicts.{Verdict}
 use mathlib.Core.Path.{◌≡◌, refl}
 use mathlib.Core.Bool.{true, false}
 use mathlib.Core.List.{List, [], ◌∷◌}
@@ -8,8 +10,6 @@ use native.Mathlib.Omega.{arith}
 use lib.ListN.{length, get_or}
 use Rattle.finite.proofs.Truth.{bcase, no_tf}
 use Rattle.refusal.specs.declared.Refusal.TheVariants.{Line}
-use Rattle.refusal.specs.declared.Verdict.{Verdict}
-use Rattle.refusal.specs.declared.Verdict.TheVariants.{Fine, Fault}
 use Rattle.read_lines.specs.Numbers.{is_line, IsLine}
 use Rattle.read_lines.proofs.Numbers.{is-line-iff}
 use Rattle.sheets.specs.Faults.{link_lines_fault, lines_fault}
@@ -22,7 +22,7 @@ module _ (i : ℕ) (l : List ℕ) (ls : List (List ℕ)) where
   unfolding link_lines_fault
   link-fine h = rw (h, link_lines_fault)
 
-  pub link_bad : is_line 2 l ≡ false → link_lines_fault i (l ∷ ls) ≡ Fault (Line i)
+  pub link_bad : is_line 2 l ≡ false → link_lines_fault i (l ∷ ls) ≡ Err (Line i)
   unfolding link_lines_fault
   link_bad h = rw (h, link_lines_fault)
 
@@ -31,15 +31,15 @@ module _ (l : List ℕ) (ls : List (List ℕ)) where
   unfolding lines_fault
   first_fine h = rw (h, lines_fault)
 
-  pub first_bad : is_line 1 l ≡ false → lines_fault (l ∷ ls) ≡ Fault (Line 0)
+  pub first_bad : is_line 1 l ≡ false → lines_fault (l ∷ ls) ≡ Err (Line 0)
   unfolding lines_fault
   first_bad h = rw (h, lines_fault)
 
-pub lines-missing : lines_fault [] ≡ Fault (Line 0)
+pub lines-missing : lines_fault [] ≡ Err (Line 0)
 unfolding lines_fault
 lines-missing = refl
 
-pub links-missing : (i : ℕ) → link_lines_fault i [] ≡ Fine
+pub links-missing : (i : ℕ) → link_lines_fault i [] ≡ Ok tt
 unfolding link_lines_fault
 links-missing i = refl
 
@@ -47,8 +47,8 @@ links-missing i = refl
 
 -- of lines numbered from i on, the j-th of which must be `On j`: the verdict, and why
 pub data Judged (On : ℕ → List ℕ → Type 0) (ls : List (List ℕ)) (i : ℕ) : Verdict → Type 0 where
-  judged_fine : ((j : ℕ) → j < length ls → On j (get_or ls j [])) → Judged On ls i Fine
-  judged_bad : (j : ℕ) {k : ℕ} → k ≡ i + j → j < length ls → ((h : ℕ) → h < j → On h (get_or ls h [])) → (On j (get_or ls j []) → ⊥) → Judged On ls i (Fault (Line k))
+  judged_fine : ((j : ℕ) → j < length ls → On j (get_or ls j [])) → Judged On ls i (Ok tt)
+  judged_bad : (j : ℕ) {k : ℕ} → k ≡ i + j → j < length ls → ((h : ℕ) → h < j → On h (get_or ls h [])) → (On j (get_or ls j []) → ⊥) → Judged On ls i (Err (Line k))
 
 -- a fine line in front
 module _ (On : ℕ → List ℕ → Type 0) {l : List ℕ} (ls : List (List ℕ)) (f : On 0 l) where
@@ -61,7 +61,7 @@ module _ (On : ℕ → List ℕ → Type 0) {l : List ℕ} (ls : List (List ℕ)
   judged_front (judged_bad j {k} e h g n) = judged_bad (suc j) {k = k} (omega arith) (suc-le-suc h) (in_front g) n
 
 -- a bad one
-judged_first : (On : ℕ → List ℕ → Type 0) {l : List ℕ} (ls : List (List ℕ)) (i : ℕ) → (On 0 l → ⊥) → Judged On (l ∷ ls) i (Fault (Line i))
+judged_first : (On : ℕ → List ℕ → Type 0) {l : List ℕ} (ls : List (List ℕ)) (i : ℕ) → (On 0 l → ⊥) → Judged On (l ∷ ls) i (Err (Line i))
 judged_first On ls i n = judged_bad 0 {k = i} (omega arith) (suc-le-suc (zero-le {n = length ls})) (λ j k. absurd (omega arith)) n
 
 not_line : (k : ℕ) (l : List ℕ) → is_line k l ≡ false → IsLine k l → ⊥

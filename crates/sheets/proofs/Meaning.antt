@@ -1,4 +1,6 @@
 -- The verdict on a sheet means what RULES 9.1 says: 12 at the first line that is not as it must be, else what the cabling is given.
+use Rattle.std.specs.Prelude.{Err, Ok}
+use Rattle.refusal.specs.Verdicts.{Verdict}
 use mathlib.Core.Path.{◌≡◌, refl, ◌∙◌, ap}
 use mathlib.Core.List.{List, [], ◌∷◌}
 use mathlib.Core.Logic.{◌↔◌, inl, inr, ⊎_elim}
@@ -8,8 +10,6 @@ use lib.ListN.{length}
 use Rattle.finite.specs.Truth.{below}
 use Rattle.finite.proofs.Truth.{bcase, below-lt, below-le}
 use Rattle.refusal.specs.declared.Refusal.TheVariants.{Short, Line}
-use Rattle.refusal.specs.declared.Verdict.{Verdict}
-use Rattle.refusal.specs.declared.Verdict.TheVariants.{Fine, Fault}
 use Rattle.refusal.proofs.Verdicts.{then-fine, then-fault}
 use Rattle.cabling.specs.Cabling.{Cabling}
 use Rattle.cabling.specs.Faults.{fault_of}
@@ -48,7 +48,7 @@ lines-one (bad_line {i = i} l f n) (bad_line {i = j} m g o) =
     bcase (below i j) (λ t. absurd (n (g i (below-lt _ _ t))))
     (λ t.
     bcase (below j i) (λ u. absurd (o (f j (below-lt _ _ u))))
-    (λ u. let a = below-le _ _ t in let b = below-le _ _ u in let e : i ≡ j = omega arith in ap (λ (k : ℕ). Fault (Line k)) e))
+    (λ u. let a = below-le _ _ t in let b = below-le _ _ u in let e : i ≡ j = omega arith in ap (λ (k : ℕ). Err (Line k)) e))
 
 -- 12 at i exactly where the lines below i are as they must be and line i is not
 pub lines_means : (ls : List (List ℕ)) (v : Verdict) → (lines_fault ls ≡ v) ↔ OfLines ls v
@@ -62,8 +62,8 @@ module _ (s : List ℕ) where
   row = go (lines_fault (lines_of s)) refl
     where
       go : (v : Verdict) → lines_fault (lines_of s) ≡ v → OfSheet s (sheet_fault s)
-      go Fine e = let (t, q) = told-sheet s e in rw (then-fine (fault_of (cabling_on s)) e) (row-cabling s t q)
-      go (Fault r) e = rw (then-fault (fault_of (cabling_on s)) e) (row-lines s ((lines_means _ _).0 e))
+      go (Ok _) e = let (t, q) = told-sheet s e in rw (then-fine (fault_of (cabling_on s)) e) (row-cabling s t q)
+      go (Err r) e = rw (then-fault (fault_of (cabling_on s)) e) (row-lines s ((lines_means _ _).0 e))
 
   given : {v : Verdict} → OfSheet s v → sheet_fault s ≡ v
   unfolding sheet_fault
@@ -75,25 +75,25 @@ module _ (s : List ℕ) where
   sheet_means v = (λ e. rw (← e) row, given)
 
   -- so 12 is given for the lines alone, and 9 never
-  pub line_means : (i : ℕ) → (sheet_fault s ≡ Fault (Line i)) ↔ OfLines (lines_of s) (Fault (Line i))
-  line_means i = (λ e. lines ((sheet_means (Fault (Line i))).0 e), λ o. given (of_lines o))
+  pub line_means : (i : ℕ) → (sheet_fault s ≡ Err (Line i)) ↔ OfLines (lines_of s) (Err (Line i))
+  line_means i = (λ e. lines ((sheet_means (Err (Line i))).0 e), λ o. given (of_lines o))
     where
-      none : {c : Cabling} → Means c (Fault (Line i)) → ⊥
+      none : {c : Cabling} → Means c (Err (Line i)) → ⊥
       none = elim [ ]
 
-      lines : OfSheet s (Fault (Line i)) → OfLines (lines_of s) (Fault (Line i))
+      lines : OfSheet s (Err (Line i)) → OfLines (lines_of s) (Err (Line i))
       lines (of_lines o) = o
       lines (of_cabling t q m) = absurd (none m)
 
-  pub sheet-not-short : sheet_fault s ≡ Fault Short → ⊥
-  sheet-not-short e = neither ((sheet_means (Fault Short)).0 e)
+  pub sheet-not-short : sheet_fault s ≡ Err Short → ⊥
+  sheet-not-short e = neither ((sheet_means (Err Short)).0 e)
     where
-      no-line-short : {ls : List (List ℕ)} → OfLines ls (Fault Short) → ⊥
+      no-line-short : {ls : List (List ℕ)} → OfLines ls (Err Short) → ⊥
       no-line-short = elim [ ]
 
-      none : {c : Cabling} → Means c (Fault Short) → ⊥
+      none : {c : Cabling} → Means c (Err Short) → ⊥
       none = elim [ ]
 
-      neither : OfSheet s (Fault Short) → ⊥
+      neither : OfSheet s (Err Short) → ⊥
       neither (of_lines o) = no-line-short o
       neither (of_cabling t q m) = none m

@@ -1,4 +1,5 @@
 -- The lines of links read one by one: the first bad line, and the pairs, of which the front is held.
+use Rattle.std.specs.Prelude.{Err, Ok}
 use mathlib.Core.Path.{◌≡◌, refl, sym, ◌∙◌, ap, ap₂}
 use mathlib.Core.List.{List, [], ◌∷◌, ◌++◌, append_assoc, append-nil}
 use Prim.Native.Nat.{ℕ, ◌+◌, ◌%◌, ◌≤◌, ◌<◌}
@@ -10,7 +11,6 @@ use Rattle.finite.specs.Truth.{below}
 use Rattle.finite.proofs.Truth.{bcase, below-lt, below-le}
 use Rattle.finite.proofs.Slices.{drop-next}
 use Rattle.refusal.specs.declared.Refusal.TheVariants as refusal
-use Rattle.refusal.specs.declared.Verdict.TheVariants.{Fine, Fault}
 use Rattle.refusal.proofs.Verdicts.{fine-fault}
 use Rattle.laid.specs.Laid.{Page, page, behind}
 use Rattle.laid.specs.Lays.{Lays}
@@ -116,7 +116,7 @@ module _ {s before : List ℕ} {at i : ℕ} {held : Page} (r : LinesRead s befor
 
   -- it is none: 12 at this line
   pub lines_read_bad : {line : FirstLine} → line ≡ two_in (drop at s) → line.size ≡ 0 → at < length s
-      → Holds (lines_of s) before (Fault (refusal.Line i)) held.at held.bytes
+      → Holds (lines_of s) before (Err (refusal.Line i)) held.at held.bytes
   unfolding two_in link_lines_fault
   lines_read_bad e none h =
       let (l, ls, lines) = at-line h in
@@ -127,7 +127,7 @@ module _ {s before : List ℕ} {at i : ℕ} {held : Page} (r : LinesRead s befor
       }
 
   -- no line is left
-  pub lines_read_end : length s ≤ at → Holds (lines_of s) before Fine held.at held.bytes
+  pub lines_read_end : length s ≤ at → Holds (lines_of s) before (Ok tt) held.at held.bytes
   unfolding link_lines_fault pairs_on
   lines_read_end h =
       let lines : lines_of (drop at s) ≡ [] = ap lines_of (drop_of_length-le s h) ∙ lines_none in

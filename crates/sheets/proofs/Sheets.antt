@@ -1,4 +1,5 @@
 -- A text whose lines have no fault is the sheet of what it tells; it is accepted exactly when that is a good cabling, and no two cablings have the same sheet.
+use Rattle.std.specs.Prelude.{Ok}
 use mathlib.Core.Path.{◌≡◌, refl, sym, ◌∙◌, ap, ap₂}
 use mathlib.Core.Bool.{true}
 use mathlib.Core.List.{List, [], ◌∷◌, ◌++◌}
@@ -8,7 +9,6 @@ use native.Mathlib.Omega.{arith}
 use lib.ListN.{length, get_or, drop}
 use Rattle.finite.specs.Lists.{joined_up}
 use Rattle.finite.proofs.Truth.{bcase, both, and_l, below-lt, lt-below}
-use Rattle.refusal.specs.declared.Verdict.TheVariants.{Fine}
 use Rattle.refusal.proofs.Verdicts.{fine-fault, then-fine, and_then_fine}
 use Rattle.cabling.specs.Cabling.{Cabling, cabled, Good}
 use Rattle.cabling.specs.Faults.{fault_of}
@@ -28,7 +28,7 @@ use Rattle.sheets.proofs.Lines.{link-fine, link_bad, first_fine, first_bad, line
 -- ---- what is printed is read back
 
 -- the lines of links: each is one, and they tell the pairs
-link-lines-fine : (i : ℕ) (pairs : List ℕ) → ((p : ℕ) → get_or pairs p 0 < 256) → link_lines_fault i (lines_of (link_lines pairs)) ≡ Fine
+link-lines-fine : (i : ℕ) (pairs : List ℕ) → ((p : ℕ) → get_or pairs p 0 < 256) → link_lines_fault i (lines_of (link_lines pairs)) ≡ Ok tt
 unfolding link_lines
 link-lines-fine i [] low = ap (link_lines_fault i) lines_none ∙ links-missing i
 link-lines-fine i (a ∷ []) low = ap (link_lines_fault i) lines_none ∙ links-missing i
@@ -63,7 +63,7 @@ module _ {c : Cabling} (t : Tellable c) where
   unfolding sheet_of
   sheet-lines = line_first (c.nodes ∷ []) (link_lines c.pairs)
 
-  lines-fine : lines_fault (lines_of (sheet_of c)) ≡ Fine
+  lines-fine : lines_fault (lines_of (sheet_of c)) ≡ Ok tt
   lines-fine = ap lines_fault sheet-lines ∙ first_fine _ _ (line-fine (c.nodes ∷ []) first_byte) ∙ link-lines-fine 1 c.pairs low
 
   pub sheet-cabling : cabling_on (sheet_of c) ≡ c
@@ -80,7 +80,7 @@ module _ {c : Cabling} (t : Tellable c) where
 
 -- ---- lines without a fault are what their numbers print
 
-link-lines-same : (i : ℕ) (ls : List (List ℕ)) → link_lines_fault i ls ≡ Fine → joined_up ls ≡ link_lines (pairs_on ls)
+link-lines-same : (i : ℕ) (ls : List (List ℕ)) → link_lines_fault i ls ≡ Ok tt → joined_up ls ≡ link_lines (pairs_on ls)
 unfolding joined_up link_lines pairs_on numbers_in
 link-lines-same i [] h = refl
 link-lines-same i (l ∷ ls) h =
@@ -94,7 +94,7 @@ one_more a l h f (suc i) = f i
 two-more : (a b : ℕ) (l : List ℕ) → are_bytes (a ∷ b ∷ []) ≡ true → AllBytes l → AllBytes (a ∷ b ∷ l)
 two-more a b l h f = let (p, q) = (bytes-two-iff a b).0 h in one_more a (b ∷ l) p (one_more b l q f)
 
-link-lines-pairs : (i : ℕ) (ls : List (List ℕ)) → link_lines_fault i ls ≡ Fine → (length (pairs_on ls) % 2 ≡ 0) × AllBytes (pairs_on ls)
+link-lines-pairs : (i : ℕ) (ls : List (List ℕ)) → link_lines_fault i ls ≡ Ok tt → (length (pairs_on ls) % 2 ≡ 0) × AllBytes (pairs_on ls)
 unfolding pairs_on numbers_in
 link-lines-pairs i [] h = (refl, λ j. omega arith)
 link-lines-pairs i (l ∷ ls) h =
@@ -105,7 +105,7 @@ link-lines-pairs i (l ∷ ls) h =
 abbrev told_by : List (List ℕ) → Cabling
 told_by ls = cabled (number_in (get_or ls 0 [])) (pairs_on (drop 1 ls))
 
-lines_tell : (ls : List (List ℕ)) → lines_fault ls ≡ Fine → Tellable (told_by ls) × (joined_up ls ≡ sheet_of (told_by ls))
+lines_tell : (ls : List (List ℕ)) → lines_fault ls ≡ Ok tt → Tellable (told_by ls) × (joined_up ls ≡ sheet_of (told_by ls))
 unfolding joined_up sheet_of numbers_in are_bytes
 lines_tell [] h = fine-fault h lines-missing
 lines_tell (l ∷ ls) h =
@@ -119,29 +119,29 @@ lines_tell (l ∷ ls) h =
     (λ t. fine-fault h (first_bad l ls t))
 
 -- a text whose lines have no fault is the sheet of what it tells
-pub told-sheet : (s : List ℕ) → lines_fault (lines_of s) ≡ Fine → Tellable (cabling_on s) × (s ≡ sheet_of (cabling_on s))
+pub told-sheet : (s : List ℕ) → lines_fault (lines_of s) ≡ Ok tt → Tellable (cabling_on s) × (s ≡ sheet_of (cabling_on s))
 unfolding cabling_on
 told-sheet s h = let (t, e) = lines_tell (lines_of s) h in (t, sym (lines-joined s) ∙ e)
 
-pub lines-fine-iff : (s : List ℕ) → (lines_fault (lines_of s) ≡ Fine) ↔ ((c : Cabling) × Tellable c × (s ≡ sheet_of c))
+pub lines-fine-iff : (s : List ℕ) → (lines_fault (lines_of s) ≡ Ok tt) ↔ ((c : Cabling) × Tellable c × (s ≡ sheet_of c))
 lines-fine-iff s = (λ h. let (t, e) = told-sheet s h in (cabling_on s, t, e), λ (c, t, e). ap (λ (x : List ℕ). lines_fault (lines_of x)) e ∙ lines-fine t)
 
 -- ---- so only sheets of good cablings are accepted
 
-pub sheet-accepted : {c : Cabling} → Good c → sheet_fault (sheet_of c) ≡ Fine
+pub sheet-accepted : {c : Cabling} → Good c → sheet_fault (sheet_of c) ≡ Ok tt
 sheet-accepted {c} g = sheet-fault (good_tellable g) ∙ (fault-fine c).1 g
 
-pub accepted-sheet : (s : List ℕ) → sheet_fault s ≡ Fine → Good (cabling_on s) × (s ≡ sheet_of (cabling_on s))
+pub accepted-sheet : (s : List ℕ) → sheet_fault s ≡ Ok tt → Good (cabling_on s) × (s ≡ sheet_of (cabling_on s))
 unfolding sheet_fault
 accepted-sheet s h =
     let (lines, cabling) = and_then_fine (lines_fault (lines_of s)) (fault_of (cabling_on s)) h in
     ((fault-fine (cabling_on s)).0 cabling, (told-sheet s lines).1)
 
-pub sheet-accepted-iff : (s : List ℕ) → (sheet_fault s ≡ Fine) ↔ ((c : Cabling) × Good c × (s ≡ sheet_of c))
+pub sheet-accepted-iff : (s : List ℕ) → (sheet_fault s ≡ Ok tt) ↔ ((c : Cabling) × Good c × (s ≡ sheet_of c))
 sheet-accepted-iff s = (λ h. let (g, e) = accepted-sheet s h in (cabling_on s, g, e), λ (c, g, e). ap sheet_fault e ∙ sheet-accepted g)
 
 -- RULES 2.2: "Every accepted cabling has exactly one sheet."
-pub one-sheet-iff : {c : Cabling} → Good c → (s : List ℕ) → ((sheet_fault s ≡ Fine) × (cabling_on s ≡ c)) ↔ (s ≡ sheet_of c)
+pub one-sheet-iff : {c : Cabling} → Good c → (s : List ℕ) → ((sheet_fault s ≡ Ok tt) × (cabling_on s ≡ c)) ↔ (s ≡ sheet_of c)
 one-sheet-iff g s = (
   λ (h, e). (accepted-sheet s h).1 ∙ ap sheet_of e,
   λ e. (ap sheet_fault e ∙ sheet-accepted g, ap cabling_on e ∙ sheet-cabling (good_tellable g)),
@@ -152,5 +152,5 @@ pub sheet_unique : {c d : Cabling} → Good c → Good d → sheet_of c ≡ shee
 sheet_unique g h e = sym (sheet-cabling (good_tellable g)) ∙ ap cabling_on e ∙ sheet-cabling (good_tellable h)
 
 -- RULES 6.5: "A sheet has at most 3,075 bytes."
-pub accepted-size : (s : List ℕ) → sheet_fault s ≡ Fine → length s ≤ longest_sheet
+pub accepted-size : (s : List ℕ) → sheet_fault s ≡ Ok tt → length s ≤ longest_sheet
 accepted-size s h = let (g, e) = accepted-sheet s h in let l = sheet-size g in let q = ap length e in omega arith

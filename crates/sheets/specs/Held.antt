@@ -1,7 +1,6 @@
 -- What the contracts of private functions cite: the pairs that are held of a sheet, and its lines as they are laid.
-use Rattle.std.specs.Prelude.{◌≡◌, List, [], ◌∷◌, ℕ, length, take}
-use Rattle.refusal.specs.declared.Verdict.{Verdict}
-use Rattle.refusal.specs.declared.Verdict.TheVariants.{Fine}
+use Rattle.std.specs.Prelude.{◌≡◌, List, [], ◌∷◌, ℕ, length, take, Ok}
+use Rattle.refusal.specs.Verdicts.{Verdict}
 use Rattle.cabling.specs.Cabling.{Cabling}
 use Rattle.laid.specs.Laid.{Page}
 use Rattle.text.specs.Text.{decimal_of}
@@ -12,7 +11,7 @@ use Rattle.sheets.specs.Faults.{link_lines_fault}
 -- the verdict on the lines of links, and the pairs that they tell, as many as the buffer holds
 pub record Holds (ls : List (List ℕ)) (before : List ℕ) (verdict : Verdict) (size : ℕ) (after : List ℕ) : Type 0 where
   pub answers : verdict ≡ link_lines_fault 1 ls
-  pub pairs : verdict ≡ Fine → take size after ≡ take (length before) (pairs_on ls)
+  pub pairs : verdict ≡ Ok tt → take size after ≡ take (length before) (pairs_on ls)
 
 -- what is laid with the lines of links behind it, and with a whole sheet
 unfoldable pub with_links : Page → List ℕ → Page

@@ -2,8 +2,7 @@
 use Rattle.std.specs.Prelude.{List, ℕ}
 use Rattle.format.specs.Contents.{links_kinds}
 use Rattle.format.specs.Bytes.{AllBytes}
-use Rattle.results.specs.declared.Written.{Written}
-use Rattle.results.specs.Written.{Writes}
+use Rattle.results.specs.Written.{Writes, Written}
 use Rattle.image.specs.Image.{image_of, cabling_in}
 use Rattle.image.specs.Faults.{links_fault}
 use Rattle.sheets.specs.Sheet.{sheet_of, cabling_on}

@@ -1,4 +1,6 @@
 -- What show prints: the report on the cabling, whichever of its images is read, or the line of the refusal alone.
+use Rattle.std.specs.Prelude.{Err, Ok}
+use Rattle.refusal.specs.Verdicts.{Verdict}
 use mathlib.Core.Path.{◌≡◌, sym, ◌∙◌, ap}
 use mathlib.Core.Bool.{Bool}
 use mathlib.Core.List.{List}
@@ -6,8 +8,6 @@ use Prim.Native.Nat.{ℕ, ◌≤◌}
 use lib.Dec.{lit≤}
 use lib.ListN.{length}
 use Rattle.refusal.specs.declared.Refusal.{Refusal}
-use Rattle.refusal.specs.declared.Verdict.{Verdict}
-use Rattle.refusal.specs.declared.Verdict.TheVariants.{Fine, Fault}
 use Rattle.cabling.specs.Cabling.{Cabling, cabled, Good}
 use Rattle.fabric.specs.declared.Fabric.{Fabric}
 use Rattle.fabric.specs.declared.Made.{Made}
@@ -16,9 +16,7 @@ use Rattle.fabric.proofs.Making.{made-verdict, made-fabric}
 use Rattle.laid.specs.Laid.{Page}
 use Rattle.laid.specs.Lays.{Lays}
 use Rattle.laid.proofs.Pieces.{lays_as}
-use Rattle.results.specs.declared.Written.{Written}
-use Rattle.results.specs.declared.Written.TheVariants.{Bytes}
-use Rattle.results.specs.Written.{Writes, room_for}
+use Rattle.results.specs.Written.{Writes, room_for, Written}
 use Rattle.lines.specs.Lines.{refusal_line, longest_refusal, or_refused}
 use Rattle.lines.proofs.Printed.{lays-prints, fault-prints}
 use Rattle.format.specs.Contents.{pairs_in}
@@ -30,13 +28,13 @@ use Rattle.shown.specs.Shows.{report_of, longest_show, output_of}
 
 -- an image that was opened, its fabric and its pairs
 pub record Opened (b : List ℕ) (f : Fabric) (pairs : List ℕ) : Type 0 where
-  pub fine : image_fault b ≡ Fine
+  pub fine : image_fault b ≡ Ok tt
   pub cabling : cabled f.nodes pairs ≡ cabling_in b
   pub good : Good (cabled f.nodes pairs)
   pub fabric : f ≡ fabric_of (cabled f.nodes pairs)
 
 module _ (b : List ℕ) {m : Made} (e : m ≡ made_by (image_fault b) (cabling_in b)) where
-  pub opened : {pairs : List ℕ} → m.verdict ≡ Fine → pairs ≡ pairs_in b → Opened b m.fabric pairs
+  pub opened : {pairs : List ℕ} → m.verdict ≡ Ok tt → pairs ≡ pairs_in b → Opened b m.fabric pairs
   opened v p =
       let fine = sym (made-verdict (cabling_in b) e) ∙ v in
       let f = made-fabric (cabling_in b) e fine in
@@ -44,13 +42,13 @@ module _ (b : List ℕ) {m : Made} (e : m ≡ made_by (image_fault b) (cabling_i
       record { fine = fine; cabling = cabling_of (cabling_in b) f p; good = g; fabric = h }
 
   -- RULES 10.1: "On a refusal it prints only `refused`, number, place."
-  pub shown_refused : {before after : List ℕ} {r : Refusal} {answer : Written} → longest_show ≤ length before → m.verdict ≡ Fault r
+  pub shown_refused : {before after : List ℕ} {r : Refusal} {answer : Written} → longest_show ≤ length before → m.verdict ≡ Err r
       → Writes (room_for longest_refusal before) (refusal_line r) before answer after → Writes (room_for longest_show before) (output_of b) before answer after
   unfolding output_of
   shown_refused room v w = fault-prints (report_of (cabling_in b)) room (sym (made-verdict (cabling_in b) e) ∙ v) (lit≤ tt) w
 
 pub shown_report : {b : List ℕ} {f : Fabric} {pairs before : List ℕ} {p : Page} → longest_show ≤ length before → Opened b f pairs
-    → Lays before p (report_of (cabled f.nodes pairs)) → Writes (room_for longest_show before) (output_of b) before (Bytes p.at) p.bytes
+    → Lays before p (report_of (cabled f.nodes pairs)) → Writes (room_for longest_show before) (output_of b) before (Ok p.at) p.bytes
 unfolding output_of
 shown_report {b} room o l = lays-prints (report_of (cabling_in b)) room o.fine (lays_as l (ap report_of o.cabling))
 

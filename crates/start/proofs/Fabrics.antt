@@ -1,4 +1,5 @@
 -- A start that is not refused is one that demand 3 speaks of: a climbing fabric with the tables of its entries, and a list of messages between its nodes.
+use Rattle.std.specs.Prelude.{Ok}
 use mathlib.Core.Path.{◌≡◌, ap, subst}
 use mathlib.Core.List.{List}
 use Prim.Native.Nat.{ℕ, ◌+◌, ◌*◌, ◌/◌, ◌%◌, ◌≤◌, ◌<◌}
@@ -7,7 +8,6 @@ use lib.Dec.{leb, eqb}
 use lib.ListN.{get_or}
 use borrow.Author.Tests.{leb-true, leb-false, eqb-true, eqb-false}
 use Rattle.finite.proofs.Truth.{bcase}
-use Rattle.refusal.specs.declared.Verdict.TheVariants.{Fine}
 use Rattle.refusal.proofs.Verdicts.{and_then_fine}
 use Rattle.cabling.specs.Cabling.{Cabling}
 use Rattle.fabric.specs.Fabric.{fabric_of}
@@ -29,13 +29,13 @@ abbrev pub RunFor : Cabling → List ℕ → Record → Type 0
 RunFor c = Reached c.nodes (fabric_of c).labels (fabric_of c).free (fabric_of c).falling
 
 -- a list without a fault is one of messages between nodes
-pub fine-listed : (n : ℕ) (list : List ℕ) → list_fault n list ≡ Fine → Listed n list
-fine-listed n list h = listed ((list_means n list Fine).0 h)
+pub fine-listed : (n : ℕ) (list : List ℕ) → list_fault n list ≡ Ok tt → Listed n list
+fine-listed n list h = listed ((list_means n list (Ok tt)).0 h)
   where
     odd : (i : ℕ) → (i % 2 ≡ 0 → ⊥) → 2 * (i / 2) + 1 ≡ i
     odd i z = bcase (leb 1 (i % 2)) (λ t. let q : 1 ≤ i % 2 = leb-true _ _ t in omega arith) (λ t. let q : i % 2 < 1 = leb-false _ _ t in absurd (z (omega arith)))
 
-    listed : OfList n list Fine → Listed n list
+    listed : OfList n list (Ok tt) → Listed n list
     listed (fine e s both) = record {
       short = s;
       nodes = λ i l.
@@ -50,8 +50,8 @@ unfolding fresh_of fabric_of
 fresh_reached b list = fresh
 
 -- so does the record of a start that is not refused
-module _ (b list : List ℕ) (fine : start_fault b list ≡ Fine) where
-  accepted : (image_fault b ≡ Fine) × (list_fault (nodes_in b) list ≡ Fine)
+module _ (b list : List ℕ) (fine : start_fault b list ≡ Ok tt) where
+  accepted : (image_fault b ≡ Ok tt) × (list_fault (nodes_in b) list ≡ Ok tt)
   accepted = and_then_fine _ _ fine
 
   pub start_reached : (old : Record) → RunFor (cabling_in b) list (start_of old b list).«record»

@@ -1,4 +1,6 @@
 -- The verdicts of start mean what RULES 9.1 says: each is given exactly where its row of specs/Verdicts.antt holds.
+use Rattle.std.specs.Prelude.{Err, Ok}
+use Rattle.refusal.specs.Verdicts.{Verdict}
 use mathlib.Core.Path.{◌≡◌, refl, sym, ◌∙◌, ap, subst}
 use mathlib.Core.Bool.{true, false}
 use mathlib.Core.List.{List}
@@ -14,8 +16,6 @@ use Rattle.finite.specs.Search.{least}
 use Rattle.finite.proofs.Truth.{no_tf, bcase, refute, or_l, or_r, or_case, below-lt, below-le}
 use Rattle.finite.proofs.Search.{least-before, least-fact, least_unique}
 use Rattle.refusal.specs.declared.Refusal.TheVariants.{Unknown}
-use Rattle.refusal.specs.declared.Verdict.{Verdict}
-use Rattle.refusal.specs.declared.Verdict.TheVariants.{Fine, Fault}
 use Rattle.refusal.proofs.Verdicts.{then-fine, then-fault}
 use Rattle.format.specs.Contents.{nodes_in}
 use Rattle.image.specs.Faults.{image_fault}
@@ -54,7 +54,7 @@ module _ (n : ℕ) (list : List ℕ) where
   list-given (over h) = sym (long-list n list h)
   list-given (unknown p e s l x q) =
       let at = least_unique (length list / 2) (strange n list) p (omega arith) (λ k. strange-end p x) (λ u k. not-strange u (q u k)) in
-      sym (strange-list n list e s (subst (λ (i : ℕ). i < length list / 2) (sym at) l)) ∙ ap (λ (i : ℕ). Fault (Unknown i)) at
+      sym (strange-list n list e s (subst (λ (i : ℕ). i < length list / 2) (sym at) l)) ∙ ap (λ (i : ℕ). Err (Unknown i)) at
   list-given (fine e s q) =
       let at = least_unique (length list / 2) (strange n list) (length list / 2) (le_refl _) (λ k. absurd (omega arith)) (λ u k. not-strange u (q u k)) in
       sym (fine-list n list e s (le_of_eq (sym at)))
@@ -89,9 +89,9 @@ pub start_means : (b list : List ℕ) (v : Verdict) → (start_fault b list ≡ 
 start_means b list v = (row (image_fault b) refl, given)
   where
     row : (w : Verdict) → image_fault b ≡ w → start_fault b list ≡ v → OfStart b list v
-    row Fine h e = of_list ((either_means b Fine).0 h) ((list_means (nodes_in b) list v).0 (sym (then-fine _ h) ∙ e))
-    row (Fault r) h e = subst (OfStart b list) (sym (then-fault _ h) ∙ e) (of_image ((either_means b (Fault r)).0 h))
+    row (Ok _) h e = of_list ((either_means b (Ok tt)).0 h) ((list_means (nodes_in b) list v).0 (sym (then-fine _ h) ∙ e))
+    row (Err r) h e = subst (OfStart b list) (sym (then-fault _ h) ∙ e) (of_image ((either_means b (Err r)).0 h))
 
     given : {w : Verdict} → OfStart b list w → start_fault b list ≡ w
     given (of_image h) = then-fault _ ((either_means b _).1 h)
-    given (of_list h l) = then-fine _ ((either_means b Fine).1 h) ∙ (list_means (nodes_in b) list _).1 l
+    given (of_list h l) = then-fine _ ((either_means b (Ok tt)).1 h) ∙ (list_means (nodes_in b) list _).1 l

@@ -1,11 +1,9 @@
 -- The start call: what it refuses, and the record afterwards.
-use Rattle.std.specs.Prelude.{Bool, true, false, List, ℕ, ◌/◌, ◌%◌, leb, eqb, length}
+use Rattle.std.specs.Prelude.{Bool, true, false, List, ℕ, ◌/◌, ◌%◌, leb, eqb, length, Err, Ok}
 use Rattle.finite.specs.Truth.{◌&◌, ◌or◌, below}
 use Rattle.finite.specs.Search.{least}
 use Rattle.refusal.specs.declared.Refusal.TheVariants.{Unknown, Messages}
-use Rattle.refusal.specs.declared.Verdict.{Verdict}
-use Rattle.refusal.specs.declared.Verdict.TheVariants.{Fine, Fault}
-use Rattle.refusal.specs.Verdicts.{and_then}
+use Rattle.refusal.specs.Verdicts.{and_then, Verdict}
 use Rattle.fabric.specs.declared.Fabric.{Fabric}
 use Rattle.fabric.specs.Fabric.{fabric_of}
 use Rattle.format.specs.Contents.{nodes_in}
@@ -28,10 +26,10 @@ strange n list p = leb n (source_in list p) or leb n (target_in list p)
 unfoldable pub list_fault : ℕ → List ℕ → Verdict
 list_fault n list =
     elim (fits list) [
-      | false ↦ Fault Messages
+      | false ↦ Err Messages
       | true ↦
           let p : ℕ = least (length list / 2) (strange n list) in
-          elim (below p (length list / 2)) [ true ↦ Fault (Unknown p) | false ↦ Fine ]
+          elim (below p (length list / 2)) [ true ↦ Err (Unknown p) | false ↦ Ok tt ]
     ]
 
 -- RULES 8.2: "an image (under read's rules)", and then the list
@@ -47,8 +45,8 @@ fresh_of b list = fresh_in (fabric_of (cabling_in b)) list
 
 -- RULES 9.3: "Buffers and record stay as they were."
 unfoldable pub record_after : Verdict → Record → Record → Record
-record_after Fine old new = new
-record_after (Fault r) old new = old
+record_after (Ok _) old new = new
+record_after (Err r) old new = old
 
 -- a verdict beside a record
 abbrev pub beside : Verdict → Record → Started

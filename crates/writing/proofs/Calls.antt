@@ -1,4 +1,5 @@
 -- Sentences about write and build: a good cabling is never refused but for want of room, build writes what write writes, and 9 is given exactly when.
+use Rattle.std.specs.Prelude.{Err, Ok}
 use mathlib.Core.Path.{◌≡◌, sym, ◌∙◌, ap}
 use mathlib.Core.Bool.{Bool, false}
 use mathlib.Core.List.{List}
@@ -6,14 +7,11 @@ use mathlib.Core.Logic.{◌↔◌}
 use Prim.Native.Nat.{ℕ, ◌≤◌, ◌<◌}
 use lib.ListN.{length}
 use Rattle.refusal.specs.declared.Refusal.TheVariants.{Short}
-use Rattle.refusal.specs.declared.Verdict.TheVariants.{Fine}
 use Rattle.cabling.specs.Cabling.{Cabling, Good}
 use Rattle.cabling.specs.Faults.{fault_of}
 use Rattle.cabling.proofs.Meaning.{fault-fine, fault-not-short}
 use Rattle.format.specs.Contents.{links_kinds, full_kinds}
-use Rattle.results.specs.declared.Written.{Written}
-use Rattle.results.specs.declared.Written.TheVariants.{Bytes, NotWritten}
-use Rattle.results.specs.Written.{placed, written_of, Writes}
+use Rattle.results.specs.Written.{placed, written_of, Writes, Written}
 use Rattle.results.proofs.Meaning.{short_means}
 use Rattle.results.proofs.Placed.{written-whole}
 use Rattle.image.specs.Image.{image_of, kinds_of, cabling_in}
@@ -24,7 +22,7 @@ use Rattle.image.proofs.Meaning.{links-not-short}
 module _ (c : Cabling) (g : Good c) {before after : List ℕ} where
   -- RULES 2.2: "Connected cabling inside the limits, given room, is never refused."
   pub never-refused : (full : Bool) {r : Written} → length (image_of (kinds_of full) c) ≤ length before
-      → Writes (fault_of c) (image_of (kinds_of full) c) before r after → (r ≡ Bytes (length (image_of (kinds_of full) c))) × (after ≡ placed (image_of (kinds_of full) c) before)
+      → Writes (fault_of c) (image_of (kinds_of full) c) before r after → (r ≡ Ok (length (image_of (kinds_of full) c))) × (after ≡ placed (image_of (kinds_of full) c) before)
   never-refused full h w = written-whole ((fault-fine c).1 g) h w
 
   -- the full image that build writes of the links image is the one that write writes: the same answer and the same buffer
@@ -38,9 +36,9 @@ module _ (c : Cabling) (g : Good c) {before after : List ℕ} where
 -- ---- 9, RULES 9.1, "given exactly when": the verdict is fine and the result is longer than the buffer
 
 pub write_short : (c : Cabling) (full : Bool) (room : ℕ)
-    → (written_of (fault_of c) (image_of (kinds_of full) c) room ≡ NotWritten Short) ↔ ((fault_of c ≡ Fine) × (room < length (image_of (kinds_of full) c)))
+    → (written_of (fault_of c) (image_of (kinds_of full) c) room ≡ Err Short) ↔ ((fault_of c ≡ Ok tt) × (room < length (image_of (kinds_of full) c)))
 write_short c full room = short_means _ room (fault_of c) (fault-not-short c)
 
 pub build_short : (b : List ℕ) (room : ℕ)
-    → (written_of (links_fault b) (image_of full_kinds (cabling_in b)) room ≡ NotWritten Short) ↔ ((links_fault b ≡ Fine) × (room < length (image_of full_kinds (cabling_in b))))
+    → (written_of (links_fault b) (image_of full_kinds (cabling_in b)) room ≡ Err Short) ↔ ((links_fault b ≡ Ok tt) × (room < length (image_of full_kinds (cabling_in b))))
 build_short b room = short_means _ room (links_fault b) (links-not-short b)

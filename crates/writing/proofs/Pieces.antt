@@ -1,4 +1,5 @@
 -- The pieces that the code lays one behind the other are the image: its contents entry by entry, then its bodies.
+use Rattle.std.specs.Prelude.{Err, Ok}
 use mathlib.Core.Path.{◌≡◌, sym, ◌∙◌, ap, ap₂}
 use mathlib.Core.Bool.{true, false}
 use mathlib.Core.List.{List, [], ◌∷◌, ◌++◌, append_assoc, append-nil}
@@ -24,8 +25,6 @@ use Rattle.laid.specs.Laid.{Page, page, behind}
 use Rattle.laid.specs.Lays.{Lays}
 use Rattle.laid.proofs.Pieces.{lays-none, lays_more, lays_as}
 use Rattle.refusal.specs.declared.Refusal.TheVariants.{Short}
-use Rattle.refusal.specs.declared.Verdict.TheVariants.{Fine}
-use Rattle.results.specs.declared.Written.TheVariants.{NotWritten}
 use Rattle.results.specs.Written.{Writes}
 use Rattle.results.proofs.Placed.{no_room}
 use Rattle.image.specs.Image.{bodies_of, image_of}
@@ -133,7 +132,7 @@ module _ (c : Cabling) where
       (regroup (head_of (lengths_of (bodies_of c))) (n ∷ 0 ∷ []) c.pairs (labels_for c) (rows_for c true) (rows_for c false) ∙ head-image (bodies_of c))
 
   -- so much room is asked for first
-  pub full-short : {before : List ℕ} → length before < 28 + length c.pairs + n + 2 * (n * n) → Writes Fine (image_of full_kinds c) before (NotWritten Short) before
+  pub full-short : {before : List ℕ} → length before < 28 + length c.pairs + n + 2 * (n * n) → Writes (Ok tt) (image_of full_kinds c) before (Err Short) before
   full-short h = no_room _ _ (let e = full_size c in omega arith)
 
 pub full-front-fits : {c : Cabling} {room : ℕ} → Good c → 28 + length c.pairs + c.nodes + 2 * (c.nodes * c.nodes) ≤ room

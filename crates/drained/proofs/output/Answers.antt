@@ -28,9 +28,9 @@ returns-then-input-list c =
     let e = c.number_at-end.ensures.number in
     drain-refused _ c.if-out-lt-LONGEST.false (fault-short _ (omega arith)) c.refusal_line.ensures
 
-pub returns-in-Fault : goal.returns-in-Fault
-returns-in-Fault c =
-    drain-refused _ c.if-out-lt-LONGEST.false (fault-start _ (whole-at (goal.at.returns-in-Fault c).Else-input-list) ∙ sym (drain-verdict _ _ _ _ (drained-at (goal.at.returns-in-Fault c).After-drain-drained)) ∙ c.in-Fault.is) c.refusal_line-in-Fault.ensures
+pub returns-in-Err : goal.returns-in-Err
+returns-in-Err c =
+    drain-refused _ c.if-out-lt-LONGEST.false (fault-start _ (whole-at (goal.at.returns-in-Err c).Else-input-list) ∙ sym (drain-verdict _ _ _ _ (drained-at (goal.at.returns-in-Err c).After-drain-drained)) ∙ c.in-Err.is) c.refusal_line-in-Err.ensures
 
 pub returns : goal.returns
 returns c =

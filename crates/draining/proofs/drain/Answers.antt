@@ -7,8 +7,8 @@ use Rattle.draining.proofs.Answers.{started_refused, started_fine, started_fresh
 use Rattle.draining.proofs.Running.{Running, running_fresh, running_more, running_less, running_all, running_pick}
 use Rattle.draining.proofs.drain.Goals as goal
 
-pub returns-in-Fault : goal.returns-in-Fault
-returns-in-Fault c = started_refused _ _ _ _ c.start-started.ensures _ c.in-Fault.is
+pub returns-in-Err : goal.returns-in-Err
+returns-in-Err c = started_refused _ _ _ _ c.start-started.ensures _ c.in-Err.is
 
 pub loop-labels-init : goal.loop-labels-init
 loop-labels-init c =

@@ -1,5 +1,5 @@
 -- `image::open` meets its contract: the contents decide which image it is.
-use mathlib.Core.Path.{refl, ◌∙◌, sym}
+use mathlib.Core.Path.{◌∙◌, sym}
 use Rattle.fabric.proofs.Making.{made_fault, made_as}
 use Rattle.image.proofs.Faults.{links-broken, image-full, image-links, image-ordered}
 use Rattle.image.proofs.open.Goals as goal
@@ -14,6 +14,5 @@ returns-then-in_order-2 c =
 
 pub returns : goal.returns
 returns c =
-    c.refused.ensures
-    ∙ made_fault _
-    (image-links _ (sym c.in_order.ensures ∙ c.if-in_order.false) ∙ links-broken _ (sym c.in_order-2.ensures ∙ c.if-in_order-2.false)) refl
+    made_fault _
+    (image-links _ (sym c.in_order.ensures ∙ c.if-in_order.false) ∙ links-broken _ (sym c.in_order-2.ensures ∙ c.if-in_order-2.false))

@@ -18,17 +18,17 @@ placed_at : (c : After-place-written) → let a = c.args in
 placed_at c =
     fine-writes (sym c.verdict-checked.ensures ∙ c.in_default.is) c.pairs_in.ensures c.place-written.ensures
 
-pub returns-in-Fault : goal.returns-in-Fault
-returns-in-Fault c =
-    reads _ (λ i. (c.type_inv.image i).fits) (fault-writes (sym c.verdict-checked.ensures ∙ c.in-Fault.is)) (outcome-refused _ _)
+pub returns-in-Err : goal.returns-in-Err
+returns-in-Err c =
+    reads _ (λ i. (c.type_inv.image i).fits) (fault-writes (sym c.verdict-checked.ensures ∙ c.in-Err.is)) (outcome-refused _ _)
 
-pub returns-in-NotWritten : goal.returns-in-NotWritten
-returns-in-NotWritten c =
-    reads _ (λ i. (c.type_inv.image i).fits) (placed_at (goal.at.returns-in-NotWritten c).After-place-written)
-    (outcome-refused _ _ ∙ ap (outcome_of _) (sym c.in-NotWritten.is))
+pub returns-in-Err : goal.returns-in-Err
+returns-in-Err c =
+    reads _ (λ i. (c.type_inv.image i).fits) (placed_at (goal.at.returns-in-Err c).After-place-written)
+    (outcome-refused _ _ ∙ ap (outcome_of _) (sym c.in-Err.is))
 
-pub returns-in-Bytes : goal.returns-in-Bytes
-returns-in-Bytes c =
-    reads _ (λ i. (c.type_inv.image i).fits) (placed_at (goal.at.returns-in-Bytes c).After-place-written)
-    (ap₂ (λ (n : ℕ) (f : Bool). Read n (c.in-Bytes.m / 2) f) c.nodes_in.ensures c.in_order.ensures
-    ∙ outcome_read _ _ ∙ ap (outcome_of _) (sym c.in-Bytes.is))
+pub returns-in-Ok : goal.returns-in-Ok
+returns-in-Ok c =
+    reads _ (λ i. (c.type_inv.image i).fits) (placed_at (goal.at.returns-in-Ok c).After-place-written)
+    (ap₂ (λ (n : ℕ) (f : Bool). Read n (c.in-Ok.m / 2) f) c.nodes_in.ensures c.in_order.ensures
+    ∙ outcome_read _ _ ∙ ap (outcome_of _) (sym c.in-Ok.is))

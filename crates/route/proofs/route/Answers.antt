@@ -16,9 +16,9 @@ image-fine : (c : In_default)
     → Opened c.args.image.now c.open-opened.result.fabric
 image-fine c = opened _ c.open-opened.ensures c.in_default.is
 
-pub returns-in-Fault : goal.returns-in-Fault
-returns-in-Fault c =
-    fault-writes (then-fault _ (sym (made-verdict _ c.open-opened.ensures) ∙ c.in-Fault.is))
+pub returns-in-Err : goal.returns-in-Err
+returns-in-Err c =
+    fault-writes (then-fault _ (sym (made-verdict _ c.open-opened.ensures) ∙ c.in-Err.is))
 
 pub returns-then-f-source : goal.returns-then-f-source
 returns-then-f-source c = let o = image-fine (goal.at.returns-then-f-source c).In_default in fault-writes (ends-refused _ _ _ o.fine (inl (omega arith)))

@@ -8,9 +8,9 @@ use Rattle.sheets.proofs.cable.Goals as goal
 pub returns-then-head-eq0 : goal.returns-then-head-eq0
 returns-then-head-eq0 c = fault-writes (cable_none _ c.one-head.ensures c.if-head-eq0.true)
 
-pub returns-in-Fault : goal.returns-in-Fault
-returns-in-Fault c =
-    fault-writes (cable_bad _ c.one-head.ensures (omega arith) c.rest.ensures c.read-found.ensures c.in-Fault.is)
+pub returns-in-Err : goal.returns-in-Err
+returns-in-Err c =
+    fault-writes (cable_bad _ c.one-head.ensures (omega arith) c.rest.ensures c.read-found.ensures c.in-Err.is)
 
 pub returns : goal.returns
 returns c =

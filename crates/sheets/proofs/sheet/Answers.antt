@@ -4,9 +4,9 @@ use lib.Dec.{lit≤}
 use Rattle.sheets.proofs.Cases.{sheet-refused, sheet-writes}
 use Rattle.sheets.proofs.sheet.Goals as goal
 
-pub returns-in-Fault : goal.returns-in-Fault
-returns-in-Fault c =
-    sheet-refused _ (λ i. (c.type_inv.image i).fits) (sym c.links_verdict-checked.ensures ∙ c.in-Fault.is)
+pub returns-in-Err : goal.returns-in-Err
+returns-in-Err c =
+    sheet-refused _ (λ i. (c.type_inv.image i).fits) (sym c.links_verdict-checked.ensures ∙ c.in-Err.is)
 
 pub returns : goal.returns
 returns c =

@@ -12,9 +12,9 @@ opened-at c =
 pub returns-then-out-lt-LONGEST : goal.returns-then-out-lt-LONGEST
 returns-then-out-lt-LONGEST c = no-room_for c.if-out-lt-LONGEST.true
 
-pub returns-in-Fault : goal.returns-in-Fault
-returns-in-Fault c =
-    shown_refused _ c.open-opened.ensures c.if-out-lt-LONGEST.false c.in-Fault.is c.refusal_line.ensures
+pub returns-in-Err : goal.returns-in-Err
+returns-in-Err c =
+    shown_refused _ c.open-opened.ensures c.if-out-lt-LONGEST.false c.in-Err.is c.refusal_line.ensures
 
 pub report-requires : goal.report-requires
 report-requires c =

@@ -2,12 +2,12 @@
 use Rattle.start.proofs.Cases.{start-image, start-list, start-fresh}
 use Rattle.start.proofs.start.Goals as goal
 
-pub returns-in-Fault : goal.returns-in-Fault
-returns-in-Fault c = start-image _ _ _ c.open-opened.ensures c.in-Fault.is
+pub returns-in-Err : goal.returns-in-Err
+returns-in-Err c = start-image _ _ _ c.open-opened.ensures c.in-Err.is
 
-pub returns-in-Fault-second : goal.returns-in-Fault-second
-returns-in-Fault-second c =
-    start-list _ _ _ c.open-opened.ensures c.in_default.is c.list_fault-second.ensures c.in-Fault-second.is
+pub returns-in-Err-second : goal.returns-in-Err-second
+returns-in-Err-second c =
+    start-list _ _ _ c.open-opened.ensures c.in_default.is c.list_fault-second.ensures c.in-Err-second.is
 
 pub returns : goal.returns
 returns c =

@@ -11,9 +11,9 @@ use Rattle.writing.proofs.build.Goals as goal
 pub returns-then-not-in_order : goal.returns-then-not-in_order
 returns-then-not-in_order c = fault-writes (links-broken _ (sym c.in_order.ensures ∙ c.if-not-in_order.true))
 
-pub returns-in-Fault : goal.returns-in-Fault
-returns-in-Fault c =
-    let v = sym (made-verdict _ c.make_in-made.ensures) ∙ c.in-Fault.is in
+pub returns-in-Err : goal.returns-in-Err
+returns-in-Err c =
+    let v = sym (made-verdict _ c.make_in-made.ensures) ∙ c.in-Err.is in
     fault-writes (links-ordered _ (sym c.in_order.ensures ∙ c.if-not-in_order.false) ∙ v)
 
 pub full-requires : goal.full-requires

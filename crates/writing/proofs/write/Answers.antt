@@ -10,8 +10,8 @@ use Rattle.image.specs.Image.{image_of, kinds_of}
 use Rattle.fabric.proofs.Parts.{cabling_of, full-asks}
 use Rattle.writing.proofs.write.Goals as goal
 
-pub returns-in-Fault : goal.returns-in-Fault
-returns-in-Fault c = fault-writes (sym (made-verdict _ c.make-made.ensures) ∙ c.in-Fault.is)
+pub returns-in-Err : goal.returns-in-Err
+returns-in-Err c = fault-writes (sym (made-verdict _ c.make-made.ensures) ∙ c.in-Err.is)
 
 pub full-requires : goal.full-requires
 full-requires c =
@@ -24,8 +24,8 @@ returns-then-full c =
     fine-writes fine (ap₂ (λ (k : ℕ) (x : Cabling). image_of k x) (ap kinds_of (sym c.if-full.true)) (cabling_of _ (made-fabric _ c.make-made.ensures fine) refl))
     c.full.ensures
 
-pub returns-in-Fault-checked : goal.returns-in-Fault-checked
-returns-in-Fault-checked c = fault-writes (sym c.fault-checked.ensures ∙ c.in-Fault-checked.is)
+pub returns-in-Err-checked : goal.returns-in-Err-checked
+returns-in-Err-checked c = fault-writes (sym c.fault-checked.ensures ∙ c.in-Err-checked.is)
 
 pub links-requires : goal.links-requires
 links-requires c = (fault-fine _).0 (sym c.fault-checked.ensures ∙ c.in_default-checked.is)
