@@ -1,40 +1,33 @@
 -- What the loop over the entries keeps: those passed fit, and the next body is to begin where the last one ends.
 use mathlib.Core.Path.{◌≡◌, refl, sym, ◌∙◌, ap}
-use mathlib.Core.Bool.{true, false}
+use mathlib.Core.Bool.{true}
 use mathlib.Core.List.{List}
-use Prim.Native.Nat.{ℕ, zero, suc, ◌+◌, ◌*◌, ◌≤◌, ◌<◌, zero-le}
+use Prim.Native.Nat.{ℕ, ◌+◌, ◌*◌, ◌≤◌, ◌<◌}
 use native.Mathlib.Numerals.{add-one}
 use native.Mathlib.Omega.{arith}
+use Rattle.std.proofs.Common.{Option, Some}
 use lib.ListN.{length, get_or}
-use Rattle.finite.specs.Truth.{◌&◌, same}
 use Rattle.finite.specs.Search.{all}
-use Rattle.finite.proofs.Truth.{no_tf, both, and_l, and_r, same-eq, eq-same}
+use Rattle.finite.proofs.Truth.{both}
 use Rattle.finite.proofs.Search.{all_more}
 use Rattle.format.specs.Limits.{max_image}
-use Rattle.format.specs.Contents.{length_at, entry_of, begin_of, fitting, in_order}
+use Rattle.format.specs.Contents.{kind_at, second_at, offset_at, length_at, stored_at, entry_of, begin_of, fitting, in_order}
 use Rattle.format.specs.Bytes.{AllBytes}
 use Rattle.format.specs.declared.Entry.{Entry}
-use Rattle.format.specs.declared.Entry.TheVariants.{At, Nothing}
-use Rattle.format.proofs.Contents.{number-none, entry-there, entry_case, entry-missing, in_order_parts, parts_in_order}
-use Rattle.format.proofs.Order.{fits-fitting, begin-none, begin-more, begin-le, parts-fit, in_order_size, in_order_kinds}
-use Rattle.contents.specs.declared.Found.{Found}
-use Rattle.contents.specs.Walking.{found_at}
-use Rattle.contents.specs.Fitting.{fits, length_in}
+use Rattle.contents.specs.declared.Reader.{Reader}
+use Rattle.contents.specs.Walking.{next_after, step_from}
+use Rattle.format.proofs.Contents.{entry-there, entry-stored, in_order_parts, parts_in_order}
+use Rattle.format.proofs.Order.{fits-fitting, begin-none, begin-more, parts-fit, in_order_size, in_order_kinds}
 
--- the entry of what a step found
-pub found-entry : (b : List ℕ) (i : ℕ) {f : Found} → f ≡ found_at b i → f.entry ≡ entry_of b i
-unfolding found_at
-found-entry b i e = ap (λ (x : Found). x.entry) e
-
--- the test of an entry that is there, and of none
-module _ {e : Entry} (i begin : ℕ) where
-  pub fits-at : {kind second offset length : ℕ} → e ≡ At kind second offset length → fits e i begin ≡ same kind (suc i) & same second 0 & same offset begin
-  unfolding fits
-  fits-at there = ap (λ (x : Entry). fits x i begin) there
-
-  pub fits-none : e ≡ Nothing → fits e i begin ≡ false
-  unfolding fits
-  fits-none none = ap (λ (x : Entry). fits x i begin) none
+-- a step that finds an entry goes on by one
+pub found_one : (r : Reader) {s : Reader} {e : Entry} → ◌≡◌ {A = Option Entry × Reader} (Some e, s) (step_from r)
+    → (Some e ≡ entry_of r.image.now r.next) × (s.image.now ≡ r.image.now) × (s.next ≡ r.next + 1)
+found_one r h =
+    let found = ap (λ (x : Option Entry × Reader). x.0) h in (
+      found,
+      ap (λ (x : Option Entry × Reader). x.1.image.now) h,
+      ap (λ (x : Option Entry × Reader). x.1.next) h ∙ ap (λ (x : Option Entry). next_after x r.next) (sym found) ∙ sym (add-one r.next),
+    )
 
 -- the entries before i fit, and the body of entry i is to begin at `begin`
 pub record Fitted (b : List ℕ) (k begin i : ℕ) : Type 0 where
@@ -46,74 +39,58 @@ pub fitted_none : (b : List ℕ) (k : ℕ) → Fitted b k (2 + 6 * k) 0
 unfolding all
 fitted_none b k = record { at = sym (begin-none b k); fit = refl; low = omega arith }
 
--- the length of an entry is a number of 16 bits
-pub length-low : (b : List ℕ) (i : ℕ) {e : Entry} → AllBytes b → e ≡ entry_of b i → length_in e ≤ max_image
-length-low b i bytes found =
-    entry_case b i
-    (λ at. let l = ap length_in (found ∙ sym at) in let low = bytes (6 + 6 * i) in let high = bytes (6 + 6 * i + 1) in omega arith)
-    (λ none. let l = ap length_in (found ∙ sym none) in omega arith)
+module _ {b : List ℕ} {k begin i : ℕ} {e : Entry} (f : Fitted b k begin i) (found : Some e ≡ entry_of b i) where
+  stored : e ≡ stored_at b i
+  stored = (entry-stored b i found).0
 
-module _ {b : List ℕ} {k begin i : ℕ} {e : Entry} (f : Fitted b k begin i) (found : e ≡ entry_of b i) where
-  pub fitted_more : AllBytes b → fits e i begin ≡ true → Fitted b k (begin + length_in e) (i + 1)
-  fitted_more bytes h =
-      entry_case b i
-      (λ at.
-      let there = found ∙ sym at in
-      let t = sym (fits-at i begin there) ∙ h in
-      let begins = f.at in
-      let low = f.low in
-      let size = length-low b i bytes found in
-      let length = ap length_in there in
+  -- the length of an entry is a number of 16 bits
+  pub length-low : AllBytes b → e.length ≤ max_image
+  length-low bytes =
+      let l = ap (λ (x : Entry). x.length) stored in
+      let low = bytes (6 + 6 * i) in
+      let high = bytes (6 + 6 * i + 1) in
+      omega arith
+
+  pub fitted_more : AllBytes b → (e.kind ≡ i + 1) × (e.second ≡ 0) × (e.offset ≡ begin) → Fitted b k (begin + e.length) (i + 1)
+  fitted_more bytes fits =
+      let s = stored in
+      let kind = ap (λ (x : Entry). x.kind) s in
+      let second = ap (λ (x : Entry). x.second) s in
+      let offset = ap (λ (x : Entry). x.offset) s in
+      let l = ap (λ (x : Entry). x.length) s in
+      let size = length-low bytes in
       let more = begin-more b k i in
+      let at = f.at in
+      let low = f.low in
       rw add-one
       record {
         at = omega arith;
-        fit = all_more i (fitting b k) ∙ both (fits-fitting (record {
-          kind = same-eq _ _ (and_l _ _ t);
-          second = same-eq _ _ (and_l _ _ (and_r _ _ t));
-          offset = same-eq _ _ (and_r _ _ (and_r _ _ t)) ∙ begins;
-        })) f.fit;
+        fit = all_more i (fitting b k) ∙ both (fits-fitting (record { kind = omega arith; second = omega arith; offset = omega arith })) f.fit;
         low = omega arith;
-      })
-      (λ none. no_tf h (fits-none i begin (found ∙ sym none)))
+      }
 
+module _ {b : List ℕ} {k begin i : ℕ} (f : Fitted b k begin i) where
   -- contents in order have every entry, and it fits
-  pub unfitted : i < k → fits e i begin ≡ false → in_order b k ≡ true → ⊥
-  unfitted l fails h =
+  pub found_fits : {e : Option Entry} → e ≡ entry_of b i → i < k → in_order b k ≡ true
+      → (e ≡ Some (stored_at b i)) × (kind_at b i ≡ i + 1) × (second_at b i ≡ 0) × (offset_at b i ≡ begin)
+  found_fits found l h =
       let room = in_order_size b k h in
       let number = in_order_kinds b k h in
       let r = parts-fit b k (in_order_parts b k h) i l in
-      let there = found ∙ sym (entry-there b i (omega arith) (omega arith) (omega arith)) in
-      no_tf (fits-at i begin there ∙ both (eq-same r.kind) (both (eq-same r.second) (eq-same (r.offset ∙ sym f.at)))) fails
+      let at = f.at in
+      (found ∙ sym (entry-there b i (omega arith) (omega arith) (omega arith)), r.kind ∙ sym (add-one i), r.second, r.offset ∙ sym at)
 
--- entry 0 is there, or the image ends before it
-first-length : (b : List ℕ) (k : ℕ) → get_or b 1 0 ≡ k → begin_of b k k ≡ length b → length_in (entry_of b 0) ≡ length_at b 0
-first-length b zero number ends =
-    let start = begin-none b 0 in
-    sym (ap length_in (entry-missing b 0 (λ _ l _. omega arith))) ∙ sym (number-none b 6 (omega arith))
-first-length b (suc k) number ends =
-    let start = begin-none b (suc k) in
-    let on = begin-le b (suc k) 0 (suc k) zero-le in
-    ap length_in (sym (entry-there b 0 (omega arith) (omega arith) (omega arith)))
+  -- all k entries passed
+  pub at_last : i ≡ k → begin ≡ begin_of b k k
+  at_last last = f.at ∙ ap (begin_of b k) last
 
--- all k entries passed
-module _ {b : List ℕ} {k begin i : ℕ} (f : Fitted b k begin i) (last : i ≡ k) where
-  at_last : begin ≡ begin_of b k k
-  at_last = f.at ∙ ap (begin_of b k) last
-
-  pub fitted_ends : in_order b k ≡ true → begin ≡ length b
-  fitted_ends h = at_last ∙ (in_order_parts b k h).ends
-
-  pub fitted_first : {e : Entry} → e ≡ entry_of b 0 → get_or b 1 0 ≡ k → begin ≡ length b → length_in e ≡ length_at b 0
-  fitted_first found number ends = ap length_in found ∙ first-length b k number (sym at_last ∙ ends)
-
-  pub fitted_all : length b ≤ max_image → get_or b 0 0 ≡ 1 → get_or b 1 0 ≡ k → begin ≡ length b → 2 ≤ length_at b 0 → in_order b k ≡ true
-  fitted_all small first entries ends long =
+  pub fitted_all : i ≡ k → length b ≤ max_image → get_or b 0 0 ≡ 1 → get_or b 1 0 ≡ k → begin ≡ length b → 2 ≤ length_at b 0 → in_order b k ≡ true
+  fitted_all last small first entries ends long =
       parts_in_order (record {
         small = small;
         first = first;
         entries = entries;
         fit = ap (λ (m : ℕ). all m (fitting b k)) (sym last) ∙ f.fit;
-        ends = sym at_last ∙ ends;
+        ends = sym (at_last last) ∙ ends;
         long = long;
       })

@@ -1,5 +1,3 @@
-pub mod Going
 pub mod Whole
 pub mod Fitted
-pub mod Meet
 pub mod Determined

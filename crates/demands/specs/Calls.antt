@@ -1,6 +1,6 @@
 -- Demand 1 in words (RULES 2.1): of each call its promise, which of its answers are refusals, and the rows of RULES 9.1 for them. A lent buffer or record is
 -- what it was before and after.
-use Rattle.std.specs.Prelude.{◌≡◌, Bool, List, [], ◌↔◌, ◌⊎◌, ℕ, ◌≤◌, ◌<◌, length, Err, Ok}
+use Rattle.std.specs.Prelude.{◌≡◌, Bool, Option, List, [], ◌↔◌, ◌⊎◌, ℕ, ◌≤◌, ◌<◌, length, Err, Ok}
 use Rattle.refusal.specs.Verdicts.{Verdict}
 use Rattle.refusal.specs.Number.{number_of, place_of}
 use Rattle.refusal.specs.declared.Refusal.{Refusal}
@@ -140,7 +140,7 @@ HopRows i s r = let (labels, (free, falling, n, node, class), destination) = i i
 
 -- ---- the reader of the contents: it refuses nothing, and where there is no entry it answers none and stays
 
-abbrev pub ReaderStep : Unit {0} → Reader → Entry → Reader → Type 0
+abbrev pub ReaderStep : Unit {0} → Reader → Option Entry → Reader → Type 0
 ReaderStep i old a after = (a, after) ≡ step_from old
 
 abbrev pub Never : {A : Type 0} → A → Refusal → Type 0

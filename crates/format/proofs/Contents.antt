@@ -2,6 +2,7 @@
 use mathlib.Core.Path.{◌≡◌}
 use mathlib.Core.Bool.{true}
 use mathlib.Core.List.{List}
+use Rattle.std.proofs.Common.{Some, None}
 use Prim.Native.Nat.{ℕ, ◌+◌, ◌*◌, ◌≤◌, ◌<◌}
 use native.Mathlib.Omega.{arith}
 use lib.Dec.{leb}
@@ -9,10 +10,10 @@ use lib.ListN.{length, get_or, get_or-eq_default}
 use borrow.Author.Tests.{leb-true, le-leb}
 use Rattle.finite.specs.Truth.{◌&◌, below}
 use Rattle.finite.specs.Search.{all}
-use Rattle.finite.proofs.Truth.{bcase, both, and_l, and_r, same-eq, eq-same, below-lt, lt-below}
+use Rattle.finite.proofs.Truth.{no_tf, bcase, both, and_l, and_r, same-eq, eq-same, below-lt, lt-below}
+use Rattle.format.specs.declared.Entry.{Entry}
 use Rattle.format.specs.Limits.{max_image}
-use Rattle.format.specs.Contents.{number_at, kind_at, second_at, offset_at, length_at, entry_of, begin_of, fitting, in_order}
-use Rattle.format.specs.declared.Entry.TheVariants.{At, Nothing}
+use Rattle.format.specs.Contents.{number_at, length_at, stored_at, entry_of, begin_of, fitting, in_order}
 
 -- past the image's end both bytes of a number are 0
 pub number-none : (b : List ℕ) (i : ℕ) → length b ≤ i → number_at b i ≡ 0
@@ -24,22 +25,29 @@ number-none b i l =
 -- ---- an entry
 
 pub entry-there : (b : List ℕ) (i : ℕ) → 1 < length b → i < get_or b 1 0 → 8 + 6 * i ≤ length b
-    → At (kind_at b i) (second_at b i) (offset_at b i) (length_at b i) ≡ entry_of b i
+    → Some (stored_at b i) ≡ entry_of b i
 unfolding entry_of
 entry-there b i h k l = let t = both (lt-below h) (both (lt-below k) (le-leb _ _ l)) in rw (t, entry_of)
 
 -- it is there as stored, or there is none
-pub entry_case : {A : Type 0} (b : List ℕ) (i : ℕ) → (At (kind_at b i) (second_at b i) (offset_at b i) (length_at b i) ≡ entry_of b i → A) → (Nothing ≡ entry_of b i → A) → A
+pub entry_case : {A : Type 0} (b : List ℕ) (i : ℕ) → (Some (stored_at b i) ≡ entry_of b i → A) → (None ≡ entry_of b i → A) → A
 unfolding entry_of
 entry_case b i there missing =
     bcase (below 1 (length b) & below i (get_or b 1 0) & leb (8 + 6 * i) (length b)) (λ t. there (rw (t, entry_of))) (λ t. missing (rw (t, entry_of)))
 
-pub entry-missing : (b : List ℕ) (i : ℕ) → (1 < length b → i < get_or b 1 0 → 8 + 6 * i ≤ length b → ⊥) → Nothing ≡ entry_of b i
+pub entry-missing : (b : List ℕ) (i : ℕ) → (1 < length b → i < get_or b 1 0 → 8 + 6 * i ≤ length b → ⊥) → None ≡ entry_of b i
 unfolding entry_of
 entry-missing b i h =
     bcase (below 1 (length b) & below i (get_or b 1 0) & leb (8 + 6 * i) (length b))
     (λ t. absurd (h (below-lt _ _ (and_l _ _ t)) (below-lt _ _ (and_l _ _ (and_r _ _ t))) (leb-true _ _ (and_r _ _ (and_r _ _ t)))))
     (λ t. rw (t, entry_of))
+
+-- an entry that is there is the one that is stored, and its number is below byte 1
+pub entry-stored : (b : List ℕ) (i : ℕ) {e : Entry} → Some e ≡ entry_of b i → (e ≡ stored_at b i) × (i < get_or b 1 0)
+entry-stored b i found = (
+  entry_case b i (λ there. cc) (λ none. cc),
+  bcase (below i (get_or b 1 0)) (below-lt _ _) (λ f. let none = entry-missing b i (λ _ l _. no_tf (lt-below l) f) in cc),
+)
 
 -- ---- the test of the contents, part by part
 

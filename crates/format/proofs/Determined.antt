@@ -1,13 +1,14 @@
 -- Each promise determines its answer: two outcomes that it allows are equal.
 use mathlib.Core.Path.{◌≡◌, sym, ◌∙◌}
 use mathlib.Core.List.{List}
+use Rattle.std.proofs.Common.{Option}
 use Prim.Native.Nat.{ℕ}
 use Rattle.format.specs.Contents.{number_at, entry_of, nodes_in, zero_in, pairs_in}
 use Rattle.format.specs.Bytes.{entry_bytes, body_at}
 use Rattle.format.specs.declared.Entry.{Entry}
 
 module _ (b : List ℕ) where
-  pub entry_determined : (i : ℕ) (r s : Entry) → r ≡ entry_of b i → s ≡ entry_of b i → r ≡ s
+  pub entry_determined : (i : ℕ) (r s : Option Entry) → r ≡ entry_of b i → s ≡ entry_of b i → r ≡ s
   entry_determined i r s p q = p ∙ sym q
 
   pub nodes_determined : (r s : ℕ) → r ≡ nodes_in b → s ≡ nodes_in b → r ≡ s

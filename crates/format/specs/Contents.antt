@@ -1,10 +1,9 @@
 -- RULES 6.1: what stands in the contents, and when they are in order. An image is a list of bytes.
-use Rattle.std.specs.Prelude.{Bool, true, false, List, ℕ, zero, suc, ◌+◌, ◌*◌, ◌-◌, leb, length, get_or, take, drop}
+use Rattle.std.specs.Prelude.{Bool, true, false, Option, Some, None, List, ℕ, zero, suc, ◌+◌, ◌*◌, ◌-◌, leb, length, get_or, take, drop}
 use Rattle.finite.specs.Truth.{◌&◌, same, below}
 use Rattle.finite.specs.Search.{all}
 use Rattle.format.specs.Limits.{max_image}
 use Rattle.format.specs.declared.Entry.{Entry}
-use Rattle.format.specs.declared.Entry.TheVariants.{At, Nothing}
 
 -- RULES 6.1: "16 bits, low byte first"
 abbrev pub number_at : List ℕ → ℕ → ℕ
@@ -23,13 +22,16 @@ offset_at b i = number_at b (4 + 6 * i)
 abbrev pub length_at : List ℕ → ℕ → ℕ
 length_at b i = number_at b (6 + 6 * i)
 
+abbrev pub stored_at : List ℕ → ℕ → Entry
+stored_at b i = record { kind = kind_at b i; second = second_at b i; offset = offset_at b i; length = length_at b i }
+
 -- RULES 6.3: "A step answers that entry's kind, second byte, offset and length as they are stored"; "Where the image has no byte 1, where byte 1 is
 -- not above the number, or where the image ends before the entry's sixth byte, it answers none"
-unfoldable pub entry_of : List ℕ → ℕ → Entry
+unfoldable pub entry_of : List ℕ → ℕ → Option Entry
 entry_of b i =
     elim (below 1 (length b) & below i (get_or b 1 0) & leb (8 + 6 * i) (length b)) [
-      | true ↦ At (kind_at b i) (second_at b i) (offset_at b i) (length_at b i)
-      | false ↦ Nothing
+      | true ↦ Some (stored_at b i)
+      | false ↦ None
     ]
 
 -- RULES 6.1: "Bodies follow in the order of their entries without a gap, the first directly behind the contents": where body i of k begins

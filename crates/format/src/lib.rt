@@ -4,9 +4,7 @@
 ghost use Rattle.std.specs.Prelude.{◌≡◌, ◌≤◌, ◌<◌, take, drop};
 ghost use Rattle.format.specs.Limits.{half_word};
 ghost use Rattle.format.specs.Contents.{number_at, entry_of, body_start, nodes_in, zero_in, pairs_in};
-ghost use Rattle.format.specs.Bytes.{entry_bytes, body_at};
-
-use slices::byte_at;
+ghost use Rattle.format.specs.Bytes.{low_high, entry_bytes, body_at};
 
 // The number of kinds of a links image, and of a full one.
 pub const LINKS: usize = 1;
@@ -19,16 +17,13 @@ pub const MAX_IMAGE: usize = 65535;
 // How many numbers there are of 16 bits.
 pub const HALF_WORD: usize = 65536;
 
-// A contents entry as stored, or none.
-#[derive(Clone, Copy)]
-pub enum Entry {
-    At {
-        kind: u8,
-        second: u8,
-        offset: usize,
-        length: usize,
-    },
-    Nothing,
+// A contents entry as stored.
+#[derive(Clone, Copy, Debug, PartialEq, Eq)]
+pub struct Entry {
+    pub kind: u8,
+    pub second: u8,
+    pub offset: usize,
+    pub length: usize,
 }
 
 // The number in two bytes from place i on, low byte first.
@@ -39,45 +34,43 @@ pub fn number_at(image: &[u8], i: usize) -> usize
     if image.len() <= i {
         return 0;
     }
-    let low = byte_at(image, i);
-    let high = byte_at(image, i + 1);
-    low + 256 * high
+    usize::from(u16::from_le_bytes([image[i], slices::byte(image, i + 1)]))
 }
 
 // The entry of that number, where the image has one.
-pub fn entry_at(image: &[u8], number: usize) -> Entry
+pub fn entry_at(image: &[u8], number: usize) -> Option<Entry>
     ensures { result ≡ entry_of image.now number }
 {
-    if image.len() <= 1 {
-        return Entry::Nothing;
-    }
-    if byte_at(image, 1) <= number {
-        return Entry::Nothing;
+    let entries = usize::from(slices::byte(image, 1));
+    if entries <= number {
+        return None;
     }
     let at = 6 * number;
     if image.len() < 8 + at {
-        return Entry::Nothing;
+        return None;
     }
-    Entry::At {
+    Some(Entry {
         kind: image[2 + at],
         second: image[3 + at],
         offset: number_at(image, 4 + at),
         length: number_at(image, 6 + at),
-    }
+    })
+}
+
+// The low 16 bits of a number, low byte first.
+fn low_high(x: usize) -> [u8; 2]
+    ensures { result ≡ low_high x }
+{
+    ((x % HALF_WORD) as u16).to_le_bytes()
 }
 
 // An entry as it is written: kind, zero, offset and length, low byte first.
 pub fn entry_bytes(kind: u8, offset: usize, size: usize) -> [u8; 6]
     ensures { result ≡ entry_bytes kind offset size }
 {
-    [
-        kind,
-        0,
-        (offset % 256) as u8,
-        (offset / 256 % 256) as u8,
-        (size % 256) as u8,
-        (size / 256 % 256) as u8,
-    ]
+    let offset = low_high(offset);
+    let size = low_high(size);
+    [kind, 0, offset[0], offset[1], size[0], size[1]]
 }
 
 // Where the body of kind 1 begins.
@@ -85,21 +78,21 @@ fn body_start(image: &[u8]) -> usize
     ensures starts { result ≡ body_start image.now }
     ensures low { result ≤ 1532 }
 {
-    2 + 6 * byte_at(image, 1)
+    2 + 6 * usize::from(slices::byte(image, 1))
 }
 
 // N of the cabling that kind 1 holds, as stored.
 pub fn nodes_in(image: &[u8]) -> usize
     ensures { result ≡ nodes_in image.now }
 {
-    byte_at(image, body_start(image))
+    usize::from(slices::byte(image, body_start(image)))
 }
 
 // The byte after N, as stored.
 pub fn zero_in(image: &[u8]) -> usize
     ensures { result ≡ zero_in image.now }
 {
-    byte_at(image, body_start(image) + 1)
+    usize::from(slices::byte(image, body_start(image) + 1))
 }
 
 // At most `size` bytes from place `from` on.
@@ -113,11 +106,8 @@ fn part(image: &[u8], from: usize, size: usize) -> &[u8]
 pub fn pairs_in(image: &[u8]) -> &[u8]
     ensures { result.now ≡ pairs_in image.now }
 {
-    let size = number_at(image, 6);
-    if size < 2 {
-        return &image[..0];
-    }
-    part(image, body_start(image) + 2, size - 2)
+    let size = number_at(image, 6).saturating_sub(2);
+    part(image, body_start(image) + 2, size)
 }
 
 // The body of entry i.
@@ -125,7 +115,7 @@ pub fn body_at(image: &[u8], i: usize) -> &[u8]
     ensures { result.now ≡ body_at image.now i }
 {
     if image.len() / 6 <= i {
-        return &image[..0];
+        return &[];
     }
     let at = 6 * i;
     let offset = number_at(image, 4 + at);

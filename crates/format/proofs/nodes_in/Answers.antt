@@ -1,5 +1,0 @@
--- `format::nodes_in` meets its contract.
-use Rattle.format.proofs.nodes_in.Goals as goal
-
-pub returns : goal.returns
-returns c = rw (c.byte_at.ensures, c.body_start.ensures.starts)
