@@ -33,6 +33,7 @@ pub fn step_at(image: &[u8], number: usize) -> Found
     Found { entry, next }
 }
 
+// No `Iterator`: RULES 12.1 names the reader's form, and `step_from` says in one equation what a step answers and leaves.
 impl<'a> Reader<'a> {
     // RULES 6.3: "a new reader stands at 0"
     pub fn new(image: &'a [u8]) -> Reader<'a>
