@@ -29,7 +29,7 @@ use Rattle.image.specs.Faults.{links_fault, image_fault}
 use Rattle.reading.specs.Reads.{outcome_of, Reads}
 use Rattle.image.specs.Verdicts.{OfLinks}
 use Rattle.image.proofs.Meaning.{links_means, either_means}
-use Rattle.reading.proofs.Reading.{outcome-refused, reads_determined, read_refused, read_untouched}
+use Rattle.reading.proofs.Reading.{reads_determined, read_refused, read_untouched}
 use Rattle.route.specs.Route.{route_fault, route_bytes}
 use Rattle.route.proofs.Cases.{ends-refused, not-refused}
 use Rattle.sheets.specs.Sheet.{sheet_of, cabling_on}
@@ -131,7 +131,7 @@ read_keeps = record {
   given = λ b s t a x.
       numbered (λ r.
       let m = rows_mean (pairs_in b) (length s) (image_fault b) (either_means b) r in
-      (λ e. m.0 (read_refused b s t r (rw e at x)), λ o. x.answers ∙ ap (outcome_of b) (m.1 o) ∙ sym (outcome-refused b r)));
+      (λ e. m.0 (read_refused b s t r (rw e at x)), λ o. x.answers ∙ ap (outcome_of b) (m.1 o)));
   untouched = λ b s t a r x e. read_untouched b s t r (rw e at x);
 }
 

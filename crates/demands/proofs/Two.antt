@@ -23,9 +23,7 @@ use Rattle.format.proofs.Order.{in_order_iff}
 use Rattle.results.specs.Written.{placed, Writes, Written}
 use Rattle.image.specs.Image.{bodies_of, image_of, kinds_of, cabling_in}
 use Rattle.image.specs.Faults.{links_fault}
-use Rattle.reading.specs.Reads.{Reads}
-use Rattle.reading.specs.declared.Outcome.{Outcome}
-use Rattle.reading.specs.declared.Outcome.TheVariants.{Read}
+use Rattle.reading.specs.Reads.{Outcome, read_as, Reads}
 use Rattle.image.proofs.Sizes.{full_size}
 use Rattle.image.proofs.Images.{read_kind, full-bodies}
 use Rattle.reading.proofs.Calls.{read_written, write_read}
@@ -84,7 +82,7 @@ module _ (c : Cabling) (g : Good c) where
 
     -- reading what was written gives back the cabling and the kind: N, M, which image, and the pairs at the buffer's front
     pub demand_2_read : (full : Bool) {answer : Outcome} → length c.pairs ≤ length before → Reads (image_of (kinds_of full) c) before answer after
-        → (answer ≡ Read c.nodes (length c.pairs / 2) full) × (after ≡ placed c.pairs before)
+        → (answer ≡ read_as c.nodes (length c.pairs / 2) full) × (after ≡ placed c.pairs before)
     demand_2_read = read_written c g
 
     -- and write too answers, with either image
@@ -103,7 +101,7 @@ module _ (c : Cabling) (g : Good c) where
     demand_2_sheet = sheet-never-refused g
 
 -- writing what was read gives back the same bytes: of any image that read accepts
-pub demand_2_back : (b before after : List ℕ) (n m : ℕ) (full : Bool) → Reads b before (Read n m full) after
+pub demand_2_back : (b before after : List ℕ) (n m : ℕ) (full : Bool) → Reads b before (read_as n m full) after
     → {room left : List ℕ} {answer : Written} → length b ≤ length room
     → Writes (fault_of (cabled n (take (2 * m) after))) (image_of (kinds_of full) (cabled n (take (2 * m) after))) room answer left
     → (answer ≡ Ok (length b)) × (left ≡ placed b room)

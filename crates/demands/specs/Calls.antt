@@ -18,8 +18,7 @@ use Rattle.results.specs.Written.{Writes, Written}
 use Rattle.image.specs.Image.{image_of, kinds_of, cabling_in}
 use Rattle.image.specs.Faults.{links_fault}
 use Rattle.image.specs.Verdicts.{OfLinks, OfEither}
-use Rattle.reading.specs.declared.Outcome.{Outcome}
-use Rattle.reading.specs.declared.Outcome.TheVariants.{NotRead}
+use Rattle.reading.specs.Reads.{Outcome}
 use Rattle.route.specs.Route.{route_fault, route_bytes}
 use Rattle.sheets.specs.Sheet.{sheet_of, cabling_on}
 use Rattle.sheets.specs.Verdicts.{OfSheet}
@@ -75,7 +74,7 @@ abbrev pub SheetRows : List ℕ → List ℕ → Refusal → Type 0
 SheetRows b before = RefusalRows (OfLinks b) (length (sheet_of (cabling_in b))) (length before)
 
 abbrev pub NotReads : Outcome → Refusal → Type 0
-NotReads a r = a ≡ NotRead r
+NotReads a r = a ≡ Err r
 
 abbrev pub ReadRows : List ℕ → List ℕ → Refusal → Type 0
 ReadRows b before = RefusalRows (OfEither b) (length (pairs_in b)) (length before)

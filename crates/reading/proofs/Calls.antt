@@ -1,5 +1,5 @@
 -- Sentences about read: reading and writing are exact inverses, and 9 is given exactly when.
-use Rattle.std.specs.Prelude.{Ok}
+use Rattle.std.specs.Prelude.{Err, Ok}
 use Rattle.refusal.specs.Verdicts.{Verdict}
 use mathlib.Core.Path.{◌≡◌, sym, ◌∙◌, ap, ap₂}
 use mathlib.Core.Bool.{Bool}
@@ -18,18 +18,16 @@ use Rattle.results.proofs.Meaning.{short_means}
 use Rattle.results.proofs.Placed.{written-whole}
 use Rattle.image.specs.Image.{image_of, kinds_of, cabling_in}
 use Rattle.image.specs.Faults.{image_fault}
-use Rattle.reading.specs.Reads.{outcome_of, Reads}
-use Rattle.reading.specs.declared.Outcome.{Outcome}
-use Rattle.reading.specs.declared.Outcome.TheVariants.{Read, NotRead}
-use Rattle.reading.proofs.Reading.{read_front, read_refused, outcome-refused}
+use Rattle.reading.specs.Reads.{Outcome, read_as, outcome_of, Reads}
+use Rattle.reading.proofs.Reading.{read_front, read_refused}
 use Rattle.image.proofs.Images.{read_kind, read_cabling, image-accepted, accepted-good, accepted}
 use Rattle.image.proofs.Meaning.{image-not-short}
 
 module _ (c : Cabling) (g : Good c) {before after : List ℕ} where
   -- the read call gives back N, M and the kind of what was written, and leaves the pairs at the buffer's front
   pub read_written : (full : Bool) {r : Outcome} → length c.pairs ≤ length before → Reads (image_of (kinds_of full) c) before r after
-      → (r ≡ Read c.nodes (length c.pairs / 2) full) × (after ≡ placed c.pairs before)
-  unfolding outcome_of written_of written_into
+      → (r ≡ read_as c.nodes (length c.pairs / 2) full) × (after ≡ placed c.pairs before)
+  unfolding written_of written_into
   read_written full h w =
       let b : List ℕ = image_of (kinds_of full) c in
       let fine = image-accepted c g full in
@@ -37,12 +35,12 @@ module _ (c : Cabling) (g : Good c) {before after : List ℕ} where
       let n = ap (λ (x : Cabling). x.nodes) (read_cabling c g full) in
       let l = le-leb _ _ h in (
         w.answers ∙ ap₂ (λ (v : Verdict) (x : List ℕ). outcome_of b (written_of v x (length before))) fine p
-            ∙ rw (l, written_of) (ap₂ (λ (x : ℕ) (f : Bool). Read x (length c.pairs / 2) f) n (read_kind c g full)),
+            ∙ rw (l, written_of) (ap₂ (λ (x : ℕ) (f : Bool). read_as x (length c.pairs / 2) f) n (read_kind c g full)),
         w.leaves ∙ ap₂ (λ (v : Verdict) (x : List ℕ). written_into v x before) fine p ∙ rw (l, written_into),
       )
 
 -- writing what was read gives back the same bytes: N, the pairs that read left at the front, and the kind, with room, write the image that was read
-pub write_read : (b before after : List ℕ) (n m : ℕ) (full : Bool) → Reads b before (Read n m full) after
+pub write_read : (b before after : List ℕ) (n m : ℕ) (full : Bool) → Reads b before (read_as n m full) after
     → {room left : List ℕ} {r : Written} → length b ≤ length room
     → Writes (fault_of (cabled n (take (2 * m) after))) (image_of (kinds_of full) (cabled n (take (2 * m) after))) room r left
     → (r ≡ Ok (length b)) × (left ≡ placed b room)
@@ -59,9 +57,9 @@ write_read b before after n m full c {room} {left} {r} h w =
 
 -- ---- 9, RULES 9.1, "given exactly when": the verdict is fine and the result is longer than the buffer
 
-pub read_short : (b before after : List ℕ) → Reads b before (NotRead Short) after → (image_fault b ≡ Ok tt) × (length before < length (pairs_in b))
+pub read_short : (b before after : List ℕ) → Reads b before (Err Short) after → (image_fault b ≡ Ok tt) × (length before < length (pairs_in b))
 read_short b before after c = (short_means _ _ (image_fault b) (image-not-short b)).0 (read_refused b before after Short c)
 
-pub short_read : (b before after : List ℕ) {r : Outcome} → image_fault b ≡ Ok tt → length before < length (pairs_in b) → Reads b before r after → r ≡ NotRead Short
+pub short_read : (b before after : List ℕ) {r : Outcome} → image_fault b ≡ Ok tt → length before < length (pairs_in b) → Reads b before r after → r ≡ Err Short
 short_read b before after e h c =
-    c.answers ∙ ap (outcome_of b) ((short_means _ _ (image_fault b) (image-not-short b)).1 (e, h)) ∙ sym (outcome-refused b Short)
+    c.answers ∙ ap (outcome_of b) ((short_means _ _ (image_fault b) (image-not-short b)).1 (e, h))

@@ -4,35 +4,25 @@
 ghost use Rattle.reading.specs.Reads.{Reads};
 
 use format::FULL;
-use refusal::{Refusal, Verdict};
-use results::Written;
+use refusal::Refusal;
 
-// What `read` answers: the numbers of nodes and links and which image it was, or the refusal.
-#[derive(Clone, Copy)]
-pub enum Outcome {
-    Read {
-        nodes: usize,
-        links: usize,
-        full: bool,
-    },
-    NotRead(Refusal),
+// What `read` says of an image: the numbers of nodes and links, and whether it is a full one.
+#[derive(Clone, Copy, Debug, PartialEq, Eq)]
+pub struct Summary {
+    pub nodes: usize,
+    pub links: usize,
+    pub full: bool,
 }
 
 // Answers the numbers of nodes and links and which image it is, and writes the pairs, under the checks 1 to 9.
-pub fn read(image: &[u8], buffer: &mut [u8]) -> Outcome
+pub fn read(image: &[u8], buffer: &mut [u8]) -> Result<Summary, Refusal>
     ensures { Reads image.now buffer.old result buffer.new }
 {
-    let checked = image::verdict(image);
-    if let Verdict::Fault(r) = checked {
-        return Outcome::NotRead(r);
-    }
-    let written = results::place(format::pairs_in(image), buffer);
-    match written {
-        Written::NotWritten(r) => Outcome::NotRead(r),
-        Written::Bytes(m) => Outcome::Read {
-            nodes: format::nodes_in(image),
-            links: m / 2,
-            full: contents::in_order(image, FULL),
-        },
-    }
+    image::verdict(image)?;
+    let size = results::place(format::pairs_in(image), buffer)?;
+    Ok(Summary {
+        nodes: format::nodes_in(image),
+        links: size / 2,
+        full: contents::in_order(image, FULL),
+    })
 }
