@@ -1,5 +1,5 @@
 -- A move in place: it is a move of the record where every channel from the bound on is free; and each way through its code is a case of it.
-use mathlib.Core.Path.{◌≡◌, sym, ◌∙◌, ap}
+use mathlib.Core.Path.{◌≡◌, refl, sym, ◌∙◌, ap}
 use mathlib.Core.Bool.{true, false}
 use mathlib.Core.List.{List}
 use Prim.Native.Nat.{ℕ, suc, ◌+◌, ◌-◌, ◌≤◌, ◌<◌}
@@ -20,7 +20,7 @@ use Rattle.messages.specs.Tells.{FreeFrom}
 use Rattle.messages.specs.Ready.{messages_of}
 use Rattle.messages.proofs.Moves.{there, step-none, step-already, step_delivered, step-astray, step_blocked, step-moved}
 use Rattle.messages.proofs.Changes.{released-other}
-use Rattle.machine.specs.InPlace.{packed, Advances, left_in, given_back, arriving, arrived_in, step_in}
+use Rattle.machine.specs.InPlace.{packed, advanced, left_in, given_back, arriving, arrived_in, step_in}
 
 module _ (span holder : ℕ) (holders : List ℕ) (c : ℕ) where
   pub left_below : c < span → left_in span holder holders c ≡ released holder (get_or holders c 0)
@@ -48,17 +48,12 @@ all_back span m holders free =
     left-from span (suc m) holders c k ∙ sym (released-other _ (suc m) (λ q. omega arith))))
 
 -- what comes behind, written down part by part
-pub advances : (nodes : ℕ) (labels free falling heads classes wants : List ℕ) (m : ℕ) {taken at kind to goal : ℕ} {found : Ahead} {hs cs ws : List ℕ}
-    → taken ≡ get_or wants m 0 → at ≡ get_or heads m 0 → kind ≡ get_or classes m 0 → to ≡ goal → found ≡ ahead_in nodes labels free falling taken at kind to
-    → hs ≡ set heads m found.head → cs ≡ set classes m found.class → ws ≡ set wants m found.want
-    → Advances (ahead_in nodes labels free falling (get_or wants m 0) (get_or heads m 0) (get_or classes m 0) goal) m heads classes wants hs cs ws
-advances nodes labels free falling heads classes wants m {goal = goal} {found = found} a b c d e h k w =
-    let f : found ≡ ahead_in nodes labels free falling (get_or wants m 0) (get_or heads m 0) (get_or classes m 0) goal = cc in
-    record {
-      head = h ∙ ap (λ (x : Ahead). set heads m x.head) f;
-      class = k ∙ ap (λ (x : Ahead). set classes m x.class) f;
-      want = w ∙ ap (λ (x : Ahead). set wants m x.want) f;
-    }
+pub advances : (r : Record) (m : ℕ) {taken at kind to : ℕ} {found : Ahead} {heads classes wants : List ℕ}
+    → taken ≡ want r m → at ≡ head r m → kind ≡ class r m → to ≡ target r m → found ≡ ahead_in r.nodes r.labels r.free r.falling taken at kind to
+    → heads ≡ set r.heads m found.head → classes ≡ set r.classes m found.class → wants ≡ set r.wants m found.want
+    → packed r.nodes r.messages r.moves r.labels r.free r.falling r.targets heads classes wants r.delivered r.holders ≡ advanced r m
+unfolding advanced ahead_of
+advances r m a b c d e h k w = let f : _ ≡ ahead_of r m = e ∙ rw (a, b, c, d) refl in rw (h, k, w, f) refl
 
 module _ (span : ℕ) (r : Record) (m : ℕ) where
   arrives : arriving r m ≡ true → step_in span r m ≡ with (arrived_in span r m) Delivered
@@ -131,15 +126,11 @@ module _ (span : ℕ) (r : Record) (m : ℕ) where
           blocked_in h =
               ap (λ (x : ℕ). with r (Blocked (x - 1))) who_is ∙ sym (onward ∙ step_blocked r m low d (omega arith) (λ q. h (who_is ∙ q)))
 
-          pub moved_in : {moves : ℕ} {heads classes words holders : List ℕ} → by ≡ 0 → moves ≡ counted r.moves
-              → Advances (ahead_in r.nodes r.labels r.free r.falling (want r m) (head r m) (class r m) (target r m)) m r.heads r.classes r.wants heads classes words
-              → holders ≡ set r.holders c (m + 1)
-              → with (packed r.nodes r.messages moves r.labels r.free r.falling r.targets heads classes words r.delivered holders) Moved ≡ step_in span r m
-          unfolding moved ahead_of
-          moved_in z count on held =
+          pub moved_in : {moves : ℕ} {holders : List ℕ} {after : Record} → by ≡ 0 → moves ≡ counted r.moves → holders ≡ set r.holders c (m + 1)
+              → after ≡ advanced (packed r.nodes r.messages moves r.labels r.free r.falling r.targets r.heads r.classes r.wants r.delivered holders) m
+              → with after Moved ≡ step_in span r m
+          unfolding moved ahead_of advanced
+          moved_in z count held on =
               let one = add-one m in
-              let h = on.head in
-              let k = on.class in
-              let w = on.want in
               let after = onward ∙ step-moved r m low d (omega arith) (sym who_is ∙ z) in
               cc

@@ -1,19 +1,13 @@
 -- A move in arrays that stay in their place: that of the record which they make, but a message that is delivered gives back only channels below a bound.
-use Rattle.std.specs.Prelude.{◌≡◌, Bool, true, false, List, ℕ, suc, length, get_or, set}
+use Rattle.std.specs.Prelude.{Bool, true, false, List, ℕ, suc, length, get_or, set}
 use Rattle.finite.specs.Truth.{◌&◌, non, same, below}
 use Rattle.finite.specs.Lists.{tabulate}
 use Rattle.messages.specs.Sizes.{max_messages}
 use Rattle.messages.specs.Channels.{all_taken}
 use Rattle.messages.specs.declared.Record.{Record}
-use Rattle.messages.specs.declared.Ahead.{Ahead}
-use Rattle.messages.specs.declared.Answer.{Answer}
 use Rattle.messages.specs.declared.Answer.TheVariants.{Delivered}
 use Rattle.messages.specs.declared.Stepped.{Stepped}
-use Rattle.messages.specs.Step.{want, is_delivered, counted, released, with, step_of}
-use Rattle.machine.specs.declared.Answered.{Answered}
-
-abbrev pub told_of : ℕ → Answer → Answered
-told_of moves answer = record { moves = moves; answer = answer }
+use Rattle.messages.specs.Step.{want, is_delivered, ahead_of, counted, released, with, step_of}
 
 -- a record from its parts
 abbrev pub packed : ℕ → ℕ → ℕ → List ℕ → List ℕ → List ℕ → List ℕ → List ℕ → List ℕ → List ℕ → List ℕ → List ℕ → Record
@@ -32,11 +26,11 @@ packed nodes messages moves labels free falling targets heads classes wants deli
   holders = holders;
 }
 
--- message m has taken the channel that it wanted: what comes behind it is written into three arrays, and nothing else
-pub record Advances (behind : Ahead) (m : ℕ) (heads classes wants heads-after classes-after wants-after : List ℕ) : Type 0 where
-  pub head : heads-after ≡ set heads m behind.head
-  pub class : classes-after ≡ set classes m behind.class
-  pub want : wants-after ≡ set wants m behind.want
+-- message m has taken the channel that it wanted: what comes behind it is written down, and nothing else
+unfoldable pub advanced : Record → ℕ → Record
+advanced r m =
+    packed r.nodes r.messages r.moves r.labels r.free r.falling r.targets (set r.heads m (ahead_of r m).head) (set r.classes m (ahead_of r m).class)
+    (set r.wants m (ahead_of r m).want) r.delivered r.holders
 
 -- channel c's holder, and all holders, once `holder` has given back what it holds of the channels below `span`
 unfoldable pub left_in : ℕ → ℕ → List ℕ → ℕ → ℕ

@@ -1,1 +1,2 @@
 pub mod InPlace
+pub mod Lent

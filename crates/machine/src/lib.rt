@@ -9,36 +9,33 @@ ghost use Rattle.messages.specs.Sizes.{max_messages};
 ghost use Rattle.messages.specs.Channels.{injection};
 ghost use Rattle.messages.specs.Step.{ahead_in, counted, with};
 ghost use Rattle.messages.specs.Ready.{ready_at};
-ghost use Rattle.machine.specs.InPlace.{told_of, packed, Advances, step_in};
+ghost use Rattle.machine.specs.InPlace.{advanced, step_in};
+ghost use Rattle.machine.specs.Lent.{made_of, StaysLent};
 
 mod channels; // channels.rt: numbers of channels, and who holds one
 
-use hops::HopAnswer;
+use hops::Tables;
 use messages::{ALL_TAKEN, Ahead, Answer, MAX_CHANNELS, MAX_MESSAGES, NO_CHANNEL};
 use refusal::Refusal;
 
-// A move's answer beside the count of moves after it.
-#[derive(Clone, Copy)]
-pub struct Answered {
+// A record's parts, each array where it stands: slices of any length.
+pub struct Lent<'a> {
+    pub tables: Tables<'a>,
+    pub messages: usize,
     pub moves: usize,
-    pub answer: Answer,
-}
-
-fn told(moves: usize, answer: Answer) -> Answered
-    ensures { result ≡ told_of moves answer }
-{
-    Answered { moves, answer }
+    pub targets: &'a [u8],
+    pub heads: &'a mut [u8],
+    pub classes: &'a mut [u8],
+    pub wants: &'a mut [u16],
+    pub delivered: &'a mut [u8],
+    pub holders: &'a mut [u16],
 }
 
 // One successful move more; a count that is full stays full.
 fn count(moves: usize) -> usize
     ensures { result ≡ counted moves }
 {
-    if moves < 18446744073709551615 {
-        moves + 1
-    } else {
-        18446744073709551615
-    }
+    moves.saturating_add(1)
 }
 
 // Is a message marked among these bytes, one a message?
@@ -55,119 +52,85 @@ pub fn injection(node: u8) -> u16
     channels::injection(node)
 }
 
-// What comes behind the channel `taken` for a message with this head, class and target.
-fn ahead<'a>(
-    nodes: usize,
-    labels: &'a [u8],
-    free: &'a [u8],
-    falling: &'a [u8],
-    taken: u16,
-    head: u8,
-    class: u8,
-    target: u8,
-) -> Ahead
-    ensures { result ≡ ahead_in nodes labels.now free.now falling.now taken head class target }
+// What comes behind the channel that a message wants, where it goes to this target.
+fn ahead<'a>(tables: Tables<'a>, at: Ahead, target: u8) -> Ahead
+    ensures { result ≡ ahead_in tables.entry.nodes tables.entry.labels.now tables.entry.free.now tables.entry.falling.now at.want at.head at.class target }
 {
+    let Ahead { want, head, class } = at;
     let last = channels::consumption(target);
-    if taken == last {
+    if want == last {
         let want = ALL_TAKEN as u16;
         return Ahead { want, head, class };
     }
     if head == target {
-        return Ahead {
-            want: last,
-            head,
-            class,
-        };
+        let want = last;
+        return Ahead { want, head, class };
     }
-    let found = hops::hop_within(
-        labels,
-        free,
-        falling,
-        nodes,
-        head as usize,
-        class as usize,
-        target as usize,
-    );
-    if let HopAnswer::Next(next, then) = found {
-        return Ahead {
-            want: channels::hop(head, next),
-            head: next,
-            class: then,
-        };
+    let Ok(Some(hop)) = tables.within(usize::from(head), usize::from(class), usize::from(target))
+    else {
+        let want = NO_CHANNEL as u16;
+        return Ahead { want, head, class };
+    };
+    let want = channels::hop(head, hop.node);
+    Ahead {
+        want,
+        head: hop.node,
+        class: hop.class,
     }
-    let want = NO_CHANNEL as u16;
-    Ahead { want, head, class }
 }
 
 // A message has taken the channel that it wanted: the next one is written down, and where that leads.
-fn advance<'a>(
-    nodes: usize,
-    labels: &'a [u8],
-    free: &'a [u8],
-    falling: &'a [u8],
-    targets: &'a [u8],
-    heads: &mut [u8],
-    classes: &mut [u8],
-    wants: &mut [u16],
-    message: usize,
-)
-    ensures { Advances (ahead_in nodes labels.now free.now falling.now (get_or wants.old message 0) (get_or heads.old message 0) (get_or classes.old message 0) (get_or targets.now message 0)) message heads.old classes.old wants.old heads.new classes.new wants.new }
+fn advance<'a>(lent: &mut Lent<'a>, message: usize)
+    ensures advanced { made_of lent.new ≡ advanced (made_of lent.old) message }
+    ensures lent { StaysLent lent.old lent.new }
 {
-    let taken = channels::word(wants, message);
-    let head = slices::byte(heads, message);
-    let class = slices::byte(classes, message);
-    let target = slices::byte(targets, message);
-    let found = ahead(nodes, labels, free, falling, taken, head, class, target);
+    let heads = &mut *lent.heads;
+    let classes = &mut *lent.classes;
+    let wants = &mut *lent.wants;
+    let taken = Ahead {
+        want: slices::get(wants, message, 0),
+        head: slices::byte(heads, message),
+        class: slices::byte(classes, message),
+    };
+    let found = ahead(lent.tables, taken, slices::byte(lent.targets, message));
     slices::put(heads, message, found.head);
     slices::put(classes, message, found.class);
-    channels::put(wants, message, found.want);
+    slices::put(wants, message, found.want);
 }
 
 // One move of a message, in arrays that stay in their place. A message that is delivered gives back only channels below `span`.
-pub fn step_in<'a>(
-    nodes: usize,
-    messages: usize,
-    moves: usize,
-    span: usize,
-    labels: &'a [u8],
-    free: &'a [u8],
-    falling: &'a [u8],
-    targets: &'a [u8],
-    heads: &mut [u8],
-    classes: &mut [u8],
-    wants: &mut [u16],
-    delivered: &mut [u8],
-    holders: &mut [u16],
-    message: usize,
-) -> Answered
-    ensures { with (packed nodes messages result.moves labels.now free.now falling.now targets.now heads.new classes.new wants.new delivered.new holders.new) result.answer ≡ step_in span (packed nodes messages moves labels.now free.now falling.now targets.now heads.old classes.old wants.old delivered.old holders.old) message }
+pub fn step_in<'a>(lent: &mut Lent<'a>, span: usize, message: usize) -> Answer
+    ensures step { with (made_of lent.new) result ≡ step_in span (made_of lent.old) message }
+    ensures lent { StaysLent lent.old lent.new }
 {
-    if few(messages) <= message {
-        return told(moves, Answer::Refused(Refusal::Unknown(0)));
+    let wants = &mut *lent.wants;
+    let delivered = &mut *lent.delivered;
+    let holders = &mut *lent.holders;
+    if few(lent.messages) <= message {
+        return Answer::Refused(Refusal::Unknown(0));
     }
     if marked(delivered, message) {
-        return told(moves, Answer::Already);
+        return Answer::Already;
     }
-    let want = channels::word(wants, message) as usize;
+    let want = usize::from(slices::get(wants, message, 0));
     if want == ALL_TAKEN {
         channels::release(holders, span, (message + 1) as u16);
         slices::put(delivered, message, 1);
-        return told(count(moves), Answer::Delivered);
+        lent.moves = count(lent.moves);
+        return Answer::Delivered;
     }
     if MAX_CHANNELS <= want {
-        return told(moves, Answer::Refused(Refusal::Unknown(0)));
+        return Answer::Refused(Refusal::Unknown(0));
     }
-    let holder = channels::word(holders, want) as usize;
+    let holder = usize::from(slices::get(holders, want, 0));
     if holder != 0 {
         let by = holder - 1;
-        return told(moves, Answer::Blocked(by));
+        return Answer::Blocked(by);
     }
-    channels::put(holders, want, (message + 1) as u16);
-    advance(
-        nodes, labels, free, falling, targets, heads, classes, wants, message,
-    );
-    told(count(moves), Answer::Moved)
+    slices::put(holders, want, (message + 1) as u16);
+    lent.moves = count(lent.moves);
+    advance(lent, message);
+    Answer::Moved
 }
 
 // Would a move of a message succeed?
@@ -177,14 +140,14 @@ pub fn is_ready(wants: &[u16], delivered: &[u8], holders: &[u16], message: usize
     if marked(delivered, message) {
         return false;
     }
-    let want = channels::word(wants, message) as usize;
+    let want = usize::from(slices::get(wants, message, 0));
     if want == ALL_TAKEN {
         return true;
     }
     if MAX_CHANNELS <= want {
         return false;
     }
-    channels::word(holders, want) == 0
+    slices::get(holders, want, 0) == 0
 }
 
 // Is every message delivered, by their marks?
@@ -203,5 +166,5 @@ pub fn all_delivered_in(messages: usize, delivered: &[u8]) -> bool
 pub fn few(n: usize) -> usize
     ensures { result ≡ min n max_messages }
 {
-    if n < MAX_MESSAGES { n } else { MAX_MESSAGES }
+    n.min(MAX_MESSAGES)
 }

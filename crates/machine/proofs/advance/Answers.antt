@@ -2,7 +2,6 @@
 use Rattle.machine.proofs.InPlace.{advances}
 use Rattle.machine.proofs.advance.Goals as goal
 
-pub returns : goal.returns
-returns c =
-    advances _ _ _ _ _ _ _ _ c.word-taken.ensures c.byte-head.ensures c.byte-class.ensures c.byte-target.ensures c.ahead-found.ensures
-    c.put.ensures c.put-2.ensures c.put-3.ensures
+pub returns-clause-advanced : goal.returns-clause-advanced
+returns-clause-advanced c =
+    advances _ _ c.get.ensures c.byte.ensures c.byte-2.ensures c.byte-3.ensures c.ahead-found.ensures c.put.ensures c.put-2.ensures c.put-3.ensures

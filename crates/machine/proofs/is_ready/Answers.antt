@@ -10,13 +10,13 @@ returns-then-marked c = in_never _ _ _ (non-true _ (sym c.marked.ensures ∙ c.i
 
 pub returns-then-want-eq-ALL_TAKEN : goal.returns-then-want-eq-ALL_TAKEN
 returns-then-want-eq-ALL_TAKEN c =
-    in_home _ _ _ (non-false _ (sym c.marked.ensures ∙ c.if-marked.false)) c.word-want.ensures c.if-want-eq-ALL_TAKEN.true
+    in_home _ _ _ (non-false _ (sym c.marked.ensures ∙ c.if-marked.false)) (c.from-want.ensures ∙ c.get.ensures) c.if-want-eq-ALL_TAKEN.true
 
 pub returns-then-want-ge-MAX_CHANNELS : goal.returns-then-want-ge-MAX_CHANNELS
 returns-then-want-ge-MAX_CHANNELS c =
-    in_astray _ _ _ (non-false _ (sym c.marked.ensures ∙ c.if-marked.false)) c.word-want.ensures c.if-want-eq-ALL_TAKEN.false c.if-want-ge-MAX_CHANNELS.true
+    in_astray _ _ _ (non-false _ (sym c.marked.ensures ∙ c.if-marked.false)) (c.from-want.ensures ∙ c.get.ensures) c.if-want-eq-ALL_TAKEN.false c.if-want-ge-MAX_CHANNELS.true
 
 pub returns : goal.returns
 unfolding same
 returns c =
-    in_next _ _ _ (non-false _ (sym c.marked.ensures ∙ c.if-marked.false)) c.word-want.ensures c.if-want-eq-ALL_TAKEN.false c.if-want-ge-MAX_CHANNELS.false c.word.ensures
+    in_next _ _ _ (non-false _ (sym c.marked.ensures ∙ c.if-marked.false)) (c.from-want.ensures ∙ c.get.ensures) c.if-want-eq-ALL_TAKEN.false c.if-want-ge-MAX_CHANNELS.false c.get-2.ensures

@@ -1,7 +1,0 @@
--- `machine::channels::word` meets its contract: past the end of a list stands the default.
-use mathlib.Core.Path.{sym}
-use lib.ListN.{get_or-eq_default}
-use Rattle.machine.proofs.channels.word.Goals as goal
-
-pub returns-else-i-words : goal.returns-else-i-words
-returns-else-i-words c = sym (get_or-eq_default c.args.words.now 0 c.if-i-words.false)
