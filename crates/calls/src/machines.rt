@@ -148,21 +148,21 @@ pub fn steps(args: &[u8]) -> bool {
 // The labels of a record: bytes at the front, zeros behind.
 fn labelled(bytes: &[u8]) -> [u8; MAX_NODES] {
     let mut labels = [0u8; MAX_NODES];
-    laid::put(&mut labels, 0, slices::front(bytes, MAX_NODES));
+    laid::Page::new(&mut labels).put(slices::front(bytes, MAX_NODES));
     labels
 }
 
 // A table of it likewise.
 fn tabled(bytes: &[u8]) -> [u8; MAX_PAIRS] {
     let mut table = [0u8; MAX_PAIRS];
-    laid::put(&mut table, 0, slices::front(bytes, MAX_PAIRS));
+    laid::Page::new(&mut table).put(slices::front(bytes, MAX_PAIRS));
     table
 }
 
 // The classes of its messages likewise.
 fn classed(bytes: &[u8]) -> [u8; MAX_MESSAGES] {
     let mut classes = [0u8; MAX_MESSAGES];
-    laid::put(&mut classes, 0, slices::front(bytes, MAX_MESSAGES));
+    laid::Page::new(&mut classes).put(slices::front(bytes, MAX_MESSAGES));
     classes
 }
 

@@ -4,10 +4,11 @@ ghost use Rattle.std.specs.Prelude.{◌≤◌, ◌<◌, length};
 
 use crate::inputs;
 use crate::inputs::ROOM;
+use laid::Page;
 use refusal::Verdict;
 
 // A links image up to its pairs.
-fn head(n: u8, pairs: usize, buffer: &mut [u8]) -> usize
+fn head(n: u8, pairs: usize, out: &mut Page<'_>)
     requires { pairs ≤ 1000 }
 {
     let size = 2 + 2 * pairs;
@@ -23,12 +24,7 @@ fn head(n: u8, pairs: usize, buffer: &mut [u8]) -> usize
         n,
         0,
     ];
-    laid::put(buffer, 0, &bytes)
-}
-
-fn pair(buffer: &mut [u8], at: usize, a: u8, b: u8) -> usize {
-    let bytes = [a, b];
-    laid::put(buffer, at, &bytes)
+    out.put(&bytes);
 }
 
 // Node b's neighbour below it: the node before it, or hub 0.
@@ -42,20 +38,22 @@ fn below(b: u8, in_a_path: bool) -> u8
 fn tree(n: u8, in_a_path: bool, buffer: &mut [u8]) -> usize
     requires { 0 < n }
 {
-    let mut at = head(n, n as usize - 1, buffer);
+    let mut out = Page::new(buffer);
+    head(n, usize::from(n) - 1, &mut out);
     for b in 1..n {
-        at = pair(buffer, at, below(b, in_a_path), b);
+        out.put(&[below(b, in_a_path), b]);
     }
-    at
+    out.at
 }
 
 // 513 pairs in rising order: from node 0 to nodes 32 to 63, from node 1 to the same, ..
 fn many(buffer: &mut [u8]) -> usize {
-    let mut at = head(64, 513, buffer);
+    let mut out = Page::new(buffer);
+    head(64, 513, &mut out);
     for k in 0..513usize {
-        at = pair(buffer, at, (k / 32) as u8, (32 + k % 32) as u8);
+        out.put(&[(k / 32) as u8, (32 + k % 32) as u8]);
     }
-    at
+    out.at
 }
 
 // A line of what it is and what becomes of it.
@@ -93,9 +91,10 @@ fn tell_pairs(name: &[u8], n: u8, pairs: &[u8])
     requires { length pairs.now ≤ 1000 }
 {
     let mut buffer = [0u8; ROOM];
-    let at = head(n, pairs.len() / 2, &mut buffer);
-    let end = laid::put(&mut buffer, at, pairs);
-    tell(name, slices::front(&buffer, end));
+    let mut out = Page::new(&mut buffer);
+    head(n, pairs.len() / 2, &mut out);
+    out.put(pairs);
+    tell(name, out.laid());
 }
 
 fn tell_no_messages() {

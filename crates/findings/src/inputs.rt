@@ -8,10 +8,12 @@ fn for_drain(image: &[u8], messages: &[u8], buffer: &mut [u8]) -> usize {
     let size = image.len();
     let length = [(size % 256) as u8, (size / 256 % 256) as u8];
     let seed = [0u8; 4];
-    let a = laid::put(buffer, 0, &length);
-    let b = laid::put(buffer, a, image);
-    let c = laid::put(buffer, b, &seed);
-    laid::put(buffer, c, messages)
+    let mut out = laid::Page::new(buffer);
+    out.put(&length);
+    out.put(image);
+    out.put(&seed);
+    out.put(messages);
+    out.at
 }
 
 // Prints what Drain prints for this image, seed 0 and these messages.

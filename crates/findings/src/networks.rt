@@ -5,6 +5,7 @@ ghost use Rattle.std.specs.Prelude.{◌+◌, ◌≤◌, ◌<◌};
 use crate::inputs;
 use crate::inputs::ROOM;
 use hops::HopAnswer;
+use laid::Page;
 use results::Written;
 
 // An entry: its nodes, the places of its lists, and the place behind it.
@@ -73,10 +74,11 @@ fn entry_at(table: &[u8], at: usize) -> Entry
 
 // A word and bytes.
 fn tell_fields(word: &[u8], bytes: &[u8]) {
-    let mut out = [0u8; ROOM];
-    let start = laid::put(&mut out, 0, word);
-    let end = lines::byte_fields(&mut out, start, bytes);
-    io::write_all(1, slices::front(&out, end));
+    let mut buffer = [0u8; ROOM];
+    let mut out = Page::new(&mut buffer);
+    out.put(word);
+    lines::fields(&mut out, bytes);
+    io::write_all(1, out.laid());
 }
 
 // A line of them.
@@ -144,9 +146,10 @@ fn tell_hops(image: &[u8], listed: &[u8]) {
 fn tell_load(image: &[u8], messages: &[u8]) {
     inputs::tell_drained(image, messages);
     let look = [seeds::look(seeds::next_seed(0), messages.len() / 2)];
-    let mut out = [0u8; ROOM];
-    let end = lines::line(&mut out, 0, b"looks", &look);
-    io::write_all(1, slices::front(&out, end));
+    let mut buffer = [0u8; ROOM];
+    let mut out = Page::new(&mut buffer);
+    lines::line(&mut out, b"looks", &look);
+    io::write_all(1, out.laid());
 }
 
 // Each list of messages.

@@ -1,11 +1,13 @@
 -- What is laid stands where it was laid; pieces laid one behind the other are laid as one.
 use mathlib.Core.Path.{◌≡◌, refl, sym, ◌∙◌, ap, ap₂, subst}
 use mathlib.Core.List.{List, [], ◌++◌}
-use Prim.Native.Nat.{ℕ, ◌+◌, ◌≤◌, ◌<◌, zero-le}
-use native.Mathlib.Nat.{zero-add}
+use Prim.Native.Nat.{ℕ, ◌+◌, ◌-◌, ◌≤◌, ◌<◌, zero-le}
+use native.Mathlib.Nat.{zero-add, le_refl}
 use native.Mathlib.Omega.{arith}
 use lib.ListN.{length, take, drop, length-append}
-use lib.Seq.{sets, length-sets, take_at}
+use lib.Seq.{sets, sets-eq, length-sets, take_all, take_at}
+use borrow.Rule.Slice.PartMut.{put_mid}
+use Rattle.std.proofs.lemmas.Slice.{put_mid-paste}
 use borrow.Author.Tests.{le-leb, lt-leb}
 use Rattle.finite.proofs.Lists.{sets_append, sets_front}
 use Rattle.laid.specs.Laid.{Page, page, behind}
@@ -20,6 +22,13 @@ module _ (b : List ℕ) (at : ℕ) (s : List ℕ) where
   pub behind-none : length b < at + length s → page b at ≡ behind (page b at) s
   unfolding behind
   behind-none h = rw (lt-leb _ _ h, behind)
+
+  -- written over the part of the buffer from the place on
+  pub behind-written : (t : List ℕ) → t ≡ s → at + length s ≤ length b → page (put_mid at (at + length s - at) b t) (at + length s) ≡ behind (page b at) s
+  behind-written t e h =
+      let k : length s ≡ at + length s - at = omega arith in
+      let p = put_mid-paste at (at + length s - at) b t s (length s) e k refl in
+      ap (λ (l : List ℕ). page l (at + length s)) (p ∙ rw (take_all (length s) s (le_refl _)) (sym (sets-eq s b at h))) ∙ behind-room h
 
 -- nothing at first
 pub lays-none : (b : List ℕ) → Lays b (page b 0) []
@@ -40,6 +49,10 @@ lays_more {b} {s} {p} {q} x l e h =
 -- what is laid may be said in another way
 pub lays_as : {b s t : List ℕ} {p : Page} → Lays b p s → s ≡ t → Lays b p t
 lays_as {b} {s} {t} {p} l e = subst (λ (x : List ℕ). Lays b p x) e l
+
+-- and the buffer afterwards is what the page left in it
+pub lays_left : {b s after : List ℕ} {p : Page} → Lays b p s → after ≡ p.bytes → Lays b (page after p.at) s
+lays_left {b} {s} {after} {p} l e = subst (λ (x : List ℕ). Lays b (page x p.at) s) (sym e) l
 
 module _ {b s : List ℕ} {p : Page} (l : Lays b p s) where
   -- the buffer is as long as it was

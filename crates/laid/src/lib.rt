@@ -1,29 +1,53 @@
 // Bytes laid one behind the other into a lent buffer.
 #![tactic(auto)]
 
-ghost use Rattle.std.specs.Prelude.{◌≡◌, [], ◌∷◌};
+ghost use Rattle.std.specs.Prelude.{◌≡◌, ◌≤◌, [], ◌∷◌, length, take};
 ghost use Rattle.laid.specs.Laid.{page, behind};
 
-// The bytes at place at, and the place behind them; nothing where they find no room.
-pub fn put(buffer: &mut [u8], at: usize, bytes: &[u8]) -> usize
-    ensures { page buffer.new result ≡ behind (page buffer.old at) bytes.now }
-{
-    if buffer.len() < at {
-        return at;
-    }
-    if buffer.len() - at < bytes.len() {
-        return at;
-    }
-    for i in 0..bytes.len() {
-        buffer[at + i] = bytes[i];
-    }
-    at + bytes.len()
+// A lent buffer, and the place up to which it is laid.
+#[derive(Drop)]
+pub struct Page<'a> {
+    pub bytes: &'a mut [u8],
+    pub at: usize,
+    ghost inside: { at ≤ length bytes.now },
 }
 
-// One byte.
-pub fn byte(buffer: &mut [u8], at: usize, b: u8) -> usize
-    ensures { page buffer.new result ≡ behind (page buffer.old at) (b ∷ []) }
-{
-    let one = [b];
-    put(buffer, at, &one)
+impl<'a> Page<'a> {
+    ghost use Rattle.laid.specs.Lent.{page_of};
+
+    // Nothing is laid yet.
+    pub fn new(bytes: &'a mut [u8]) -> Page<'a>
+        ensures same_buffer { result.bytes.ghost_name ≡ bytes.entry.ghost_name }
+        ensures blank { page_of result ≡ page bytes.old 0 }
+    {
+        Page { bytes, at: 0 }
+    }
+
+    // The bytes behind what is laid; nothing where they find no room.
+    pub fn put(&mut self, bytes: &[u8])
+        ensures same_buffer { self.new.bytes.ghost_name ≡ self.old.bytes.ghost_name }
+        ensures laid { page_of self.new ≡ behind (page_of self.old) bytes.now }
+    {
+        if self.bytes.len() - self.at < bytes.len() {
+            return;
+        }
+        let end = self.at + bytes.len();
+        self.bytes[self.at..end].copy_from_slice(bytes);
+        self.at = end;
+    }
+
+    // One byte.
+    pub fn byte(&mut self, b: u8)
+        ensures same_buffer { self.new.bytes.ghost_name ≡ self.old.bytes.ghost_name }
+        ensures laid { page_of self.new ≡ behind (page_of self.old) (b ∷ []) }
+    {
+        self.put(&[b]);
+    }
+
+    // What is laid.
+    pub fn laid(&self) -> &[u8]
+        ensures { result.now ≡ take self.now.at self.now.bytes.now }
+    {
+        &self.bytes[..self.at]
+    }
 }

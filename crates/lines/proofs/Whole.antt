@@ -1,11 +1,12 @@
 -- A whole line behind what is laid: its fields one by one, and a bound on its length.
 use mathlib.Core.Path.{◌≡◌, refl, sym, ◌∙◌, ap}
-use mathlib.Core.List.{List, [], ◌∷◌, ◌++◌, append_assoc, append-nil}
+use mathlib.Core.List.{List, [], ◌∷◌, ◌++◌, map, append_assoc, append-nil}
+use Rattle.std.proofs.lemmas.List.{get_or-map}
 use Prim.Native.Nat.{ℕ, suc, ◌+◌, ◌*◌, ◌≤◌, ◌<◌, suc-le-suc}
 use native.Mathlib.Nat.{le_refl}
 use native.Mathlib.Numerals.{add-one}
 use native.Mathlib.Omega.{arith}
-use lib.ListN.{length, get_or, drop, replicate, length-replicate}
+use lib.ListN.{length, get_or, drop, replicate, length-map, length-replicate}
 use lib.Seq.{drop-cons, drop-length}
 use Rattle.laid.specs.Laid.{Page, page}
 use Rattle.laid.specs.Lays.{Lays}
@@ -31,6 +32,13 @@ fields-next {p} {ns} {now} {r} {i} f l e = record {
   inside = omega arith;
   rest = rw (e, add-one) (sym (ap (with_fields now) (drop-cons ns i 0 l)) ∙ f.rest);
 }
+
+-- of what n makes of the items of a list
+pub fields-next-in : {T : Type 0} (n : T → ℕ) (xs : List T) {p : Page} {now r : Page} {i : ℕ} {x : T} → Fields p (map n xs) now i → i < length xs
+    → x ≡ get_or xs i x → r ≡ with_field now (n x) → Fields p (map n xs) r (i + 1)
+fields-next-in n xs {now = now} {i = i} {x = x} f l is e =
+    let long = length-map xs n in
+    fields-next f (omega arith) (e ∙ ap (with_field now) (ap n is ∙ sym (get_or-map n xs i x 0 l)))
 
 pub fields-end : {p : Page} {ns : List ℕ} {now : Page} {i : ℕ} → Fields p ns now i → length ns ≤ i → now ≡ with_fields p ns
 unfolding with_fields

@@ -28,8 +28,15 @@ unfoldable pub with_fields : Page → List ℕ → Page
 with_fields p [] = p
 with_fields p (n ∷ ns) = with_fields (with_field p n) ns
 
+abbrev pub with_rest : Page → List ℕ → Page
+with_rest p numbers = behind (with_fields p numbers) (10 ∷ [])
+
+-- numbers of a type whose conversions are these are converted to n of them
+abbrev pub ConvertsBy : {T : Type 0} → (T → ℕ → Type 0) → (T → ℕ) → Type 0
+ConvertsBy {T} converts n = (x : T) (y : ℕ) → converts x y → y ≡ n x
+
 unfoldable pub with_line : Page → List ℕ → List ℕ → Page
-with_line p first numbers = behind (with_fields (behind p first) numbers) (10 ∷ [])
+with_line p first numbers = with_rest (behind p first) numbers
 
 -- the word `refused`
 abbrev pub refused_word : List ℕ

@@ -1,6 +1,7 @@
 -- What `one` and `two` lay in their buffers is the line of the numbers that the text begins with.
 use mathlib.Core.Path.{◌≡◌, ◌∙◌}
 use mathlib.Core.List.{List, [], ◌∷◌}
+use Rattle.std.specs.Prelude.{Option}
 use Prim.Native.Nat.{ℕ, zero, suc, ◌+◌, ◌*◌, ◌≤◌}
 use native.Mathlib.Nat.{not-suc-le-zero, le_of_suc-le-suc, le_refl}
 use native.Mathlib.Omega.{arith}
@@ -14,7 +15,7 @@ use Rattle.text.proofs.Reading.{number_in_low}
 use Rattle.lines.specs.Lines.{with_fields, with_line}
 use Rattle.lines.proofs.Whole.{Short, within-line}
 use Rattle.read_lines.specs.declared.FirstLine.{FirstLine}
-use Rattle.read_lines.specs.Numbers.{numbers_line, are_bytes, numbers_in, front_size, one_in, two_in}
+use Rattle.read_lines.specs.Numbers.{numbers_line, are_bytes, numbers_in, begins, found_of, one_in, two_in}
 use Rattle.read_lines.proofs.Numbers.{numbers-length}
 
 -- a number that is read has at most three digits
@@ -47,19 +48,16 @@ module _ (s b : List ℕ) where
 
 -- ---- so the answers are what they are to be
 
-abbrev line : ℕ → ℕ → ℕ → FirstLine
-line size m n = record { size = size; first = m; second = n }
-
-module _ (s b : List ℕ) {p q : Page} {m size : ℕ} {l : List ℕ} (e : m ≡ number_in s) (d : p ≡ behind (page b 0) (decimal_of m)) where
-  pub one-is : q ≡ behind p (10 ∷ []) → l ≡ take q.at q.bytes → size ≡ front_size (m ∷ 0 ∷ []) l s → 4 ≤ length b → line size m 0 ≡ one_in s
-  unfolding one_in numbers_in front_size are_bytes below ◌&◌ with_line with_fields
+module _ (s b : List ℕ) {p q : Page} {m : ℕ} {l : List ℕ} {found : Option FirstLine} (e : m ≡ number_in s) (d : p ≡ behind (page b 0) (decimal_of m)) where
+  pub one-is : q ≡ behind p (10 ∷ []) → l ≡ take q.at q.bytes → found ≡ found_of m 0 l s → 4 ≤ length b → found ≡ one_in s
+  unfolding one_in numbers_in found_of begins are_bytes below ◌&◌ with_line with_fields
   one-is f g h k =
       let printed : l ≡ numbers_line (numbers_in 1 s) = g ∙ line_printed s b 0 (f ∙ rw (d, e)) k in
       rw (h, printed, e)
 
   pub two_is : {u v : Page} {t : List ℕ} {n : ℕ} → q ≡ behind p (32 ∷ []) → t ≡ drop q.at s → n ≡ number_in t → u ≡ behind q (decimal_of n) → v ≡ behind u (10 ∷ [])
-      → l ≡ take v.at v.bytes → size ≡ front_size (m ∷ n ∷ []) l s → 8 ≤ length b → line size m n ≡ two_in s
-  unfolding two_in numbers_in with_line with_fields
+      → l ≡ take v.at v.bytes → found ≡ found_of m n l s → 8 ≤ length b → found ≡ two_in s
+  unfolding two_in numbers_in found_of with_line with_fields
   two_is {n = n} f a r j w g h k =
       let at = next_place s b 32 (d ∙ rw e) f (omega arith) in
       let second : n ≡ number_in (drop (next s) s) = r ∙ rw (a, at) in

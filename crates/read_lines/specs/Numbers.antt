@@ -1,5 +1,5 @@
 -- Lines of numbers, RULES 6.5: "one space apart"; "Numbers are decimal without leading zeros"; "Each line is closed by a line feed".
-use Rattle.std.specs.Prelude.{◌≡◌, Bool, true, false, List, [], ◌∷◌, ℕ, zero, suc, length, take, drop}
+use Rattle.std.specs.Prelude.{◌≡◌, Bool, true, false, List, [], ◌∷◌, ℕ, zero, suc, Option, Some, None, length, take, drop}
 use Rattle.finite.specs.Truth.{◌&◌, below}
 use Rattle.finite.specs.Lists.{alike}
 use Rattle.text.specs.Text.{decimal_of, number_in}
@@ -29,17 +29,24 @@ numbers_in (suc k) s = number_in s ∷ numbers_in k (drop (suc (length (decimal_
 unfoldable pub is_line : ℕ → List ℕ → Bool
 is_line k l = are_bytes (numbers_in k l) & alike l (numbers_line (numbers_in k l))
 
--- the size of a line of these numbers where a text begins with it and they are bytes, else 0
-unfoldable pub front_size : List ℕ → List ℕ → List ℕ → ℕ
-front_size ns l s = elim (are_bytes ns & alike (take (length l) s) l) [ true ↦ length l | false ↦ 0 ]
+-- a text begins with a line, and the numbers on it are bytes
+unfoldable pub begins : List ℕ → List ℕ → List ℕ → Bool
+begins ns l s = are_bytes ns & alike (take (length l) s) l
 
--- the size of the line of k numbers that a text begins with, 0 where it begins with none
-abbrev pub size_in : ℕ → List ℕ → ℕ
-size_in k s = front_size (numbers_in k s) (numbers_line (numbers_in k s)) s
+-- the line of the k numbers that a text begins with, if it begins with a line of k numbers
+abbrev pub front_line : ℕ → List ℕ → List ℕ
+front_line k s = numbers_line (numbers_in k s)
 
--- what `one` and `two` answer: the size of the line of one or of two numbers that a text begins with, 0 where it begins with none, and these numbers
-unfoldable pub one_in : List ℕ → FirstLine
-one_in s = record { size = size_in 1 s; first = number_in s; second = 0 }
+-- a line that is found at the front of a text, and two of its numbers
+abbrev pub found_where : Bool → List ℕ → ℕ → ℕ → Option FirstLine
+found_where b l m n = elim b [ true ↦ Some (record { size = length l; first = m; second = n }) | false ↦ None ]
 
-unfoldable pub two_in : List ℕ → FirstLine
-two_in s = record { size = size_in 2 s; first = number_in s; second = number_in (drop (suc (length (decimal_of (number_in s)))) s) }
+unfoldable pub found_of : ℕ → ℕ → List ℕ → List ℕ → Option FirstLine
+found_of m n l s = found_where (begins (m ∷ n ∷ []) l s) l m n
+
+-- what `one` and `two` answer: the line of one or of two numbers that a text begins with, if there is one
+unfoldable pub one_in : List ℕ → Option FirstLine
+one_in s = found_where (begins (numbers_in 1 s) (front_line 1 s) s) (front_line 1 s) (number_in s) 0
+
+unfoldable pub two_in : List ℕ → Option FirstLine
+two_in s = found_where (begins (numbers_in 2 s) (front_line 2 s) s) (front_line 2 s) (number_in s) (number_in (drop (suc (length (decimal_of (number_in s)))) s))

@@ -2,9 +2,11 @@
 #![tactic(auto)]
 
 ghost use Rattle.std.specs.Prelude.{◌≡◌, [], ◌∷◌};
-ghost use Rattle.read_lines.specs.Numbers.{front_size, one_in, two_in};
+ghost use Rattle.read_lines.specs.Numbers.{found_of, one_in, two_in};
 
-// The line of numbers that a text begins with: how many bytes it has, 0 where the text begins with no such line, and its numbers.
+use laid::Page;
+
+// A line of numbers that a text begins with: how many bytes it has, and its numbers.
 #[derive(Clone, Copy)]
 pub struct FirstLine {
     pub size: usize,
@@ -12,53 +14,44 @@ pub struct FirstLine {
     pub second: usize,
 }
 
-// The size of the line where the text begins with it and both numbers are bytes, else 0.
-fn front_size(s: &[u8], line: &[u8], first: usize, second: usize) -> usize
-    ensures { result ≡ front_size (first ∷ second ∷ []) line.now s.now }
+// The line of these numbers, as it is printed, where both are bytes and the text begins with it.
+fn found(s: &[u8], line: &[u8], first: usize, second: usize) -> Option<FirstLine>
+    ensures { result ≡ found_of first second line.now s.now }
 {
-    if first > 255 {
-        return 0;
+    if first > 255 || second > 255 || !s.starts_with(line) {
+        return None;
     }
-    if second > 255 {
-        return 0;
-    }
-    if slices::same_bytes(slices::front(s, line.len()), line) {
-        line.len()
-    } else {
-        0
-    }
+    Some(FirstLine {
+        size: line.len(),
+        first,
+        second,
+    })
 }
 
 // A line of one number.
-pub fn one(s: &[u8]) -> FirstLine
+pub fn one(s: &[u8]) -> Option<FirstLine>
     ensures { result ≡ one_in s.now }
 {
     let n = text::number_in(s);
     let mut line = [0u8; 4]; // three digits and a line feed
-    let k = text::number(&mut line, 0, n);
-    let end = laid::byte(&mut line, k, 10);
-    FirstLine {
-        size: front_size(s, slices::front(&line, end), n, 0),
-        first: n,
-        second: 0,
-    }
+    let mut out = Page::new(&mut line);
+    text::number(&mut out, n);
+    out.byte(b'\n');
+    found(s, out.laid(), n, 0)
 }
 
 // A line of two numbers.
-pub fn two(s: &[u8]) -> FirstLine
+pub fn two(s: &[u8]) -> Option<FirstLine>
     ensures { result ≡ two_in s.now }
 {
     let a = text::number_in(s);
     let mut line = [0u8; 8]; // two numbers of three digits, a space and a line feed
-    let k = text::number(&mut line, 0, a);
+    let mut out = Page::new(&mut line);
+    text::number(&mut out, a);
     // the second number stands in the text where it is laid in the line
-    let at = laid::put(&mut line, k, b" ");
-    let b = text::number_in(slices::rest(s, at));
-    let m = text::number(&mut line, at, b);
-    let end = laid::byte(&mut line, m, 10);
-    FirstLine {
-        size: front_size(s, slices::front(&line, end), a, b),
-        first: a,
-        second: b,
-    }
+    out.put(b" ");
+    let b = text::number_in(slices::rest(s, out.at));
+    text::number(&mut out, b);
+    out.byte(b'\n');
+    found(s, out.laid(), a, b)
 }

@@ -13,5 +13,6 @@ pub fn place(bytes: &[u8], buffer: &mut [u8]) -> Result<usize, Refusal>
     if buffer.len() < bytes.len() {
         return Err(Refusal::Short);
     }
-    Ok(laid::put(buffer, 0, bytes))
+    buffer[..bytes.len()].copy_from_slice(bytes);
+    Ok(bytes.len())
 }

@@ -2,16 +2,20 @@
 #![tactic(auto)]
 
 ghost use Rattle.std.specs.Prelude.{◌≡◌};
-ghost use Rattle.laid.specs.Laid.{page, behind};
+ghost use Rattle.laid.specs.Laid.{behind};
+ghost use Rattle.laid.specs.Lent.{page_of};
 ghost use Rattle.text.specs.Text.{decimal_of, number_in};
 
-// A number in decimal at place at, and the place behind it.
-pub fn number(buffer: &mut [u8], at: usize, n: usize) -> usize
-    ensures { page buffer.new result ≡ behind (page buffer.old at) (decimal_of n) }
+use laid::Page;
+
+// A number in decimal, laid behind what is there.
+pub fn number(out: &mut Page<'_>, n: usize)
+    ensures same_buffer { out.new.bytes.ghost_name ≡ out.old.bytes.ghost_name }
+    ensures laid { page_of out.new ≡ behind (page_of out.old) (decimal_of n) }
 {
     let mut digits = [0u8; 20];
     let k = io::decimal(n as u64, &mut digits);
-    laid::put(buffer, at, &digits[..k])
+    out.put(&digits[..k]);
 }
 
 // The number that a text begins with: digits are read until what they make is 100 or more. 0 where there is none.
@@ -19,18 +23,11 @@ pub fn number_in(text: &[u8]) -> usize
     ensures { result ≡ number_in text.now }
 {
     let mut n = 0;
-    for i in 0..text.len() {
-        let x = text[i] as usize;
-        if n >= 100 {
+    for &x in text {
+        if n >= 100 || !x.is_ascii_digit() {
             return n;
         }
-        if x < 48 {
-            return n;
-        }
-        if x >= 58 {
-            return n;
-        }
-        n = 10 * n + (x - 48);
+        n = 10 * n + usize::from(x - b'0');
     }
     n
 }

@@ -1,28 +1,12 @@
--- `lines::fields` meets its contract. The invariant: the fields of the numbers from i on, behind what is there, make them all.
-use mathlib.Core.Path.{refl}
-use native.Mathlib.Omega.{arith}
-use borrow.Author.Rules.{rules}
-use Rattle.lines.proofs.Whole.{fields-begin, fields-next, fields-end}
+-- `lines::fields` meets its contract: a field more, and all fields.
+use Rattle.std.proofs.Common.{arith, rules}
+use Rattle.std.proofs.lemmas.List.{length-map}
+use Rattle.lines.proofs.Whole.{fields-next-in, fields-end}
 use Rattle.lines.proofs.fields.Goals as goal
 
-pub loop-i-init : goal.loop-i-init
-loop-i-init c = (fields-begin _ _, refl, refl)
+pub loop-x-preserved : goal.loop-x-preserved
+loop-x-preserved g c =
+    (search rules, λ n e. fields-next-in n _ (c.loop-x.invariant.1 n e) (omega arith) c.x-item.is (rw (e _ _ c.into.ensures) at c.field.ensures.laid))
 
-pub offset_bounds-numbers-i : goal.offset_bounds-numbers-i
-offset_bounds-numbers-i c = omega arith
-
-pub bounds-numbers-i : goal.bounds-numbers-i
-bounds-numbers-i c = omega arith
-
-pub overflow_step-i : goal.overflow_step-i
-overflow_step-i c = omega arith
-
-pub loop-i-smaller : goal.loop-i-smaller
-loop-i-smaller c = omega arith
-
-pub loop-i-preserved : goal.loop-i-preserved
-loop-i-preserved c =
-    (fields-next c.loop-i.invariant.0 (omega arith) c.field-end.ensures, c.loop-i.invariant.1, search rules)
-
-pub returns : goal.returns
-returns c = fields-end c.loop-i.invariant.0 (omega arith)
+pub returns-clause-laid : goal.returns-clause-laid
+returns-clause-laid g c = λ n e. fields-end (c.loop-x.invariant.1 n e) (rw length-map (omega arith))

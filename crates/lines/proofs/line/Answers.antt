@@ -1,12 +1,8 @@
--- `lines::line` meets its contract: what it begins with, the fields, the line feed.
-use mathlib.Core.Path.{◌∙◌, ap}
-use mathlib.Core.List.{[], ◌∷◌}
-use Rattle.laid.specs.Laid.{Page, behind}
-use Rattle.lines.specs.Lines.{with_fields, with_line}
+-- `lines::line` meets its contract: the word, and the rest of the line.
+use Rattle.std.proofs.Common.{map-id}
+use Rattle.lines.specs.Lines.{with_line}
 use Rattle.lines.proofs.line.Goals as goal
 
-pub returns : goal.returns
+pub returns-clause-laid : goal.returns-clause-laid
 unfolding with_line
-returns c =
-    let a = c.args in
-    c.byte.ensures ∙ ap (λ (q : Page). behind q (10 ∷ [])) (c.fields-end.ensures ∙ ap (λ (q : Page). with_fields q a.numbers.now) c.put-word.ensures)
+returns-clause-laid c = rw (map-id, c.put.ensures.laid) at (c.rest.ensures.laid (λ n. n) (λ x y e. e))

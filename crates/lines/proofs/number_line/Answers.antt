@@ -1,12 +1,7 @@
--- `lines::number_line` meets its contract: the number, the fields, the line feed.
-use mathlib.Core.Path.{◌∙◌, ap}
-use mathlib.Core.List.{[], ◌∷◌}
-use Rattle.laid.specs.Laid.{Page, behind}
-use Rattle.lines.specs.Lines.{with_fields, with_line}
+-- `lines::number_line` meets its contract: the number, and the rest of the line.
+use Rattle.lines.specs.Lines.{with_line}
 use Rattle.lines.proofs.number_line.Goals as goal
 
-pub returns : goal.returns
+pub returns-clause-laid : goal.returns-clause-laid
 unfolding with_line
-returns c =
-    let a = c.args in
-    c.byte.ensures ∙ ap (λ (q : Page). behind q (10 ∷ [])) (c.fields-end.ensures ∙ ap (λ (q : Page). with_fields q a.numbers.now) c.number-begun.ensures)
+returns-clause-laid g c = λ n e. rw c.number.ensures.laid at (c.rest.ensures.laid n e)
