@@ -20,6 +20,8 @@ use Rattle.messages.specs.Tells.{FreeFrom}
 use Rattle.messages.specs.Ready.{messages_of}
 use Rattle.messages.proofs.Moves.{there, step-none, step-already, step_delivered, step-astray, step_blocked, step-moved}
 use Rattle.messages.proofs.Changes.{released-other}
+use Rattle.machine.specs.declared.Lent.{Lent}
+use Rattle.machine.specs.Lent.{made_of, StaysLent}
 use Rattle.machine.specs.InPlace.{packed, advanced, left_in, given_back, arriving, arrived_in, step_in}
 
 module _ (span holder : ℕ) (holders : List ℕ) (c : ℕ) where
@@ -134,3 +136,10 @@ module _ (span : ℕ) (r : Record) (m : ℕ) where
               let one = add-one m in
               let after = onward ∙ step-moved r m low d (omega arith) (sym who_is ∙ z) in
               cc
+
+-- what is lent, and comes back: of the record that it made all that stays as it was
+pub comes_back : {before after : Lent} → StaysLent before after
+    → packed before.tables.nodes before.messages after.moves.now before.tables.labels.now before.tables.free.now before.tables.falling.now before.targets.now
+    after.heads.now after.classes.now after.wants.now after.delivered.now after.holders.now
+    ≡ made_of after
+comes_back s = rw (s.tables, s.messages, s.targets) refl

@@ -19,10 +19,11 @@ use messages::{ALL_TAKEN, Ahead, Answer, MAX_CHANNELS, MAX_MESSAGES, NO_CHANNEL}
 use refusal::Refusal;
 
 // A record's parts, each array where it stands: slices of any length.
+#[derive(Drop)]
 pub struct Lent<'a> {
     pub tables: Tables<'a>,
     pub messages: usize,
-    pub moves: usize,
+    pub moves: &'a mut usize,
     pub targets: &'a [u8],
     pub heads: &'a mut [u8],
     pub classes: &'a mut [u8],
@@ -116,7 +117,7 @@ pub fn step_in<'a>(lent: &mut Lent<'a>, span: usize, message: usize) -> Answer
     if want == ALL_TAKEN {
         channels::release(holders, span, (message + 1) as u16);
         slices::put(delivered, message, 1);
-        lent.moves = count(lent.moves);
+        *lent.moves = count(*lent.moves);
         return Answer::Delivered;
     }
     if MAX_CHANNELS <= want {
@@ -128,7 +129,7 @@ pub fn step_in<'a>(lent: &mut Lent<'a>, span: usize, message: usize) -> Answer
         return Answer::Blocked(by);
     }
     slices::put(holders, want, (message + 1) as u16);
-    lent.moves = count(lent.moves);
+    *lent.moves = count(*lent.moves);
     advance(lent, message);
     Answer::Moved
 }

@@ -3,12 +3,14 @@
 
 ghost use Rattle.std.specs.Prelude.{◌≡◌, ◌+◌, ◌*◌, ◌≤◌, get_or};
 ghost use Rattle.finite.specs.Lists.{tabulate};
-ghost use Rattle.messages.specs.Sizes.{max_messages, max_channels};
+ghost use Rattle.messages.specs.Sizes.{max_messages};
 ghost use Rattle.messages.specs.Channels.{injection};
 ghost use Rattle.messages.specs.Step.{step_of};
-ghost use Rattle.messages.specs.Fresh.{source_in, zeros, begun_of, blank_record};
+ghost use Rattle.messages.specs.Fresh.{source_in, begun_of, blank_record};
 ghost use Rattle.messages.specs.Ready.{all_delivered};
 
+use hops::Tables;
+use machine::Lent;
 use messages::{MAX_CHANNELS, MAX_MESSAGES, MAX_PAIRS, Record, Stepped};
 use nodes::MAX_NODES;
 
@@ -16,35 +18,25 @@ use nodes::MAX_NODES;
 pub fn step(record: Record, message: usize) -> Stepped
     ensures { result ≡ step_of «record» message }
 {
-    let mut heads = record.heads;
-    let mut classes = record.classes;
-    let mut wants = record.wants;
-    let mut delivered = record.delivered;
-    let mut holders = record.holders;
-    let done = machine::step_in(
-        record.nodes,
-        record.messages,
-        record.moves,
-        MAX_CHANNELS,
-        &record.labels,
-        &record.free,
-        &record.falling,
-        &record.targets,
-        &mut heads,
-        &mut classes,
-        &mut wants,
-        &mut delivered,
-        &mut holders,
-        message,
-    );
-    let answer = done.answer;
     let mut after = record;
-    after.moves = done.moves;
-    after.heads = heads;
-    after.classes = classes;
-    after.wants = wants;
-    after.delivered = delivered;
-    after.holders = holders;
+    let whole = &mut after;
+    let mut lent = Lent {
+        tables: Tables {
+            nodes: whole.nodes,
+            labels: &whole.labels,
+            free: &whole.free,
+            falling: &whole.falling,
+        },
+        messages: whole.messages,
+        moves: &mut whole.moves,
+        targets: &whole.targets,
+        heads: &mut whole.heads,
+        classes: &mut whole.classes,
+        wants: &mut whole.wants,
+        delivered: &mut whole.delivered,
+        holders: &mut whole.holders,
+    };
+    let answer = machine::step_in(&mut lent, MAX_CHANNELS, message);
     Stepped {
         record: after,
         answer,
@@ -63,34 +55,22 @@ fn ends(list: &[u8], first: usize) -> [u8; MAX_MESSAGES]
     requires { first ≤ 1 }
     ensures { result ≡ tabulate max_messages (λ m. get_or list.now (2 * m + first) 0) }
 {
-    let mut nodes = [0u8; MAX_MESSAGES];
-    for m in 0..MAX_MESSAGES {
-        nodes[m] = slices::byte(list, 2 * m + first);
+    let mut nodes = [0; MAX_MESSAGES];
+    for (m, node) in nodes.iter_mut().enumerate() {
+        *node = slices::byte(list, 2 * m + first);
     }
     nodes
-}
-
-fn no_bytes() -> [u8; MAX_MESSAGES]
-    ensures { result ≡ zeros max_messages }
-{
-    [0u8; MAX_MESSAGES]
 }
 
 // The injection channel of each message's source.
 fn injections(list: &[u8]) -> [u16; MAX_MESSAGES]
     ensures { result ≡ tabulate max_messages (λ m. injection (source_in list.now m)) }
 {
-    let mut wants = [0u16; MAX_MESSAGES];
-    for m in 0..MAX_MESSAGES {
-        wants[m] = machine::injection(slices::byte(list, 2 * m));
+    let mut wants = [0; MAX_MESSAGES];
+    for (m, want) in wants.iter_mut().enumerate() {
+        *want = machine::injection(slices::byte(list, 2 * m));
     }
     wants
-}
-
-fn no_holders() -> [u16; MAX_CHANNELS]
-    ensures { result ≡ zeros max_channels }
-{
-    [0u16; MAX_CHANNELS]
 }
 
 // The record that a fresh start fills.
@@ -105,10 +85,7 @@ pub fn begun(
 {
     let targets = ends(list, 1);
     let heads = ends(list, 0);
-    let classes = no_bytes();
     let wants = injections(list);
-    let delivered = no_bytes();
-    let holders = no_holders();
     Record {
         nodes: n,
         messages: machine::few(list.len() / 2),
@@ -118,10 +95,10 @@ pub fn begun(
         falling,
         targets,
         heads,
-        classes,
+        classes: [0; MAX_MESSAGES],
         wants,
-        delivered,
-        holders,
+        delivered: [0; MAX_MESSAGES],
+        holders: [0; MAX_CHANNELS],
     }
 }
 

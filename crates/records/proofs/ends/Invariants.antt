@@ -1,12 +1,8 @@
 -- `records::ends` meets its contract: every message passed has its byte of the list.
-use Prim.Native.Nat.{◌+◌, ◌*◌, ◌-◌, ◌≤◌}
+use Prim.Native.Nat.{◌+◌, ◌*◌}
 use lib.ListN.{get_or}
-use Rattle.messages.specs.Sizes.{max_messages}
 use Rattle.finite.proofs.Filling.{Filling}
 use Rattle.records.proofs.ends.Given as goal
 
 abbrev pub invariant-loop-m : goal.invariant-loop-m
-invariant-loop-m l = Filling (λ i. get_or l.list (2 * i + l.first) 0) l.initial.nodes l.nodes l.m × (l.m ≤ max_messages)
-
-abbrev pub decreases-loop-m : goal.decreases-loop-m
-decreases-loop-m l = max_messages - l.m
+invariant-loop-m l = Filling (λ i. get_or l.list (2 * i + l.first) 0) l.initial.node-items l.node-items l.m
