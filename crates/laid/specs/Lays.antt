@@ -7,3 +7,7 @@ use Rattle.laid.specs.Laid.{Page, page}
 pub record Lays (b : List ℕ) (p : Page) (s : List ℕ) : Type 0 where
   pub is : p ≡ page (sets b 0 s) (length s)
   pub fits : length s ≤ length b
+
+-- from page p to page q this is laid: where p is a buffer with nothing laid yet, and it finds room
+abbrev pub LaysFrom : Page → Page → List ℕ → Type 0
+LaysFrom p q s = (b : List ℕ) → p ≡ page b 0 → length s ≤ length b → Lays b q s

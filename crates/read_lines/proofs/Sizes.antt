@@ -3,11 +3,8 @@ use mathlib.Core.Path.{◌≡◌, refl}
 use mathlib.Core.Bool.{Bool, true, false}
 use mathlib.Core.List.{List, [], ◌∷◌}
 use Prim.Native.Nat.{ℕ, ◌<◌}
-use native.Mathlib.Omega.{arith}
 use lib.ListN.{length, take}
 use Rattle.std.proofs.Common.{Some, None}
-use Rattle.finite.specs.Truth.{◌&◌}
-use Rattle.finite.specs.Lists.{alike}
 use Rattle.finite.proofs.Truth.{both, refute, and_l, and_r}
 use Rattle.finite.proofs.Lists.{alike-eq, eq-alike}
 use Rattle.read_lines.specs.Numbers.{are_bytes, begins, found_of, found_where}

@@ -11,41 +11,27 @@ ghost use Rattle.image.specs.Faults.{links_fault};
 mod laying; // laying.rt: the bytes of an image, laid in a lent buffer
 
 use format::LINKS;
-use refusal::{Refusal, Verdict};
-use results::Written;
+use refusal::Refusal;
 
 // Writes the image of a cabling, full or links only, under the checks 2 to 7 and 9.
-pub fn write(n: usize, pairs: &[u8], full: bool, buffer: &mut [u8]) -> Written
+pub fn write(n: usize, pairs: &[u8], full: bool, buffer: &mut [u8]) -> Result<usize, Refusal>
     ensures { Writes (fault_of (cabled n pairs.now)) (image_of (kinds_of full) (cabled n pairs.now)) buffer.old result buffer.new }
 {
     if full {
-        let made = fabric::make(n, pairs);
-        let verdict = made.verdict;
-        if let Verdict::Fault(r) = verdict {
-            return Written::NotWritten(r);
-        }
-        let f = made.fabric;
-        return laying::full(f, pairs, buffer);
+        let f = fabric::make(n, pairs)?;
+        return laying::full(&f, pairs, buffer);
     }
-    let checked = cabling::fault(n, pairs);
-    if let Verdict::Fault(r) = checked {
-        return Written::NotWritten(r);
-    }
+    cabling::fault(n, pairs)?;
     laying::links(n, pairs, buffer)
 }
 
 // Writes the full image of a links image, under the checks 1 to 7 and 9.
-pub fn build(image: &[u8], buffer: &mut [u8]) -> Written
+pub fn build(image: &[u8], buffer: &mut [u8]) -> Result<usize, Refusal>
     ensures { Writes (links_fault image.now) (image_of full_kinds (cabling_in image.now)) buffer.old result buffer.new }
 {
     if !contents::in_order(image, LINKS) {
-        return Written::NotWritten(Refusal::Contents);
+        return Err(Refusal::Contents);
     }
-    let made = image::make_in(image);
-    let verdict = made.verdict;
-    if let Verdict::Fault(r) = verdict {
-        return Written::NotWritten(r);
-    }
-    let f = made.fabric;
-    laying::full(f, format::pairs_in(image), buffer)
+    let f = image::make_in(image)?;
+    laying::full(&f, format::pairs_in(image), buffer)
 }
