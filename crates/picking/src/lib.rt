@@ -2,14 +2,15 @@
 #![tactic(auto)]
 
 ghost use Rattle.std.specs.Prelude.{◌≡◌, ◌≤◌, min};
+ghost use Rattle.seeds.specs.Seed.{next_seed, look_at};
 ghost use Rattle.messages.specs.Sizes.{max_messages};
 ghost use Rattle.messages.specs.Ready.{ready_at};
-ghost use Rattle.machine.specs.InPlace.{packed};
+ghost use Rattle.machine.specs.Lent.{made_of, StaysLent};
 ghost use Rattle.picking.specs.Order.{chosen_by, pick_of};
 ghost use Rattle.picking.specs.InPlace.{picked, pick_in};
 
-use messages::{MAX_CHANNELS, MAX_MESSAGES, MAX_PAIRS, Record};
-use nodes::MAX_NODES;
+use machine::Lent;
+use messages::Record;
 
 // One move of a drain: the seed, the message where it looked first, the one that moved, and the record after it.
 #[derive(Clone, Copy)]
@@ -20,13 +21,12 @@ pub struct Picked {
     pub record: Record,
 }
 
-// The same in arrays that stay in their place: the count of moves stands for the record.
+// The same without a record: in arrays that stay in their place it is what they make.
 #[derive(Clone, Copy)]
 pub struct PickedIn {
     pub seed: u32,
     pub look: usize,
     pub message: usize,
-    pub moves: usize,
 }
 
 // The first message that is ready from `look` on, going round; `look` where none is.
@@ -44,76 +44,60 @@ fn choice(messages: usize, wants: &[u16], delivered: &[u8], holders: &[u16], loo
     look
 }
 
-// The next seed, where it says to look, and the move, in place, of the message that is found there. One that is delivered gives back only channels below `span`.
-pub fn pick_in<'a>(
+// The next seed, where it says to look, and the message that is found there.
+fn found(
     seed: u32,
-    nodes: usize,
     messages: usize,
-    moves: usize,
-    span: usize,
-    labels: &'a [u8; MAX_NODES],
-    free: &'a [u8; MAX_PAIRS],
-    falling: &'a [u8; MAX_PAIRS],
-    targets: &'a [u8; MAX_MESSAGES],
-    heads: &mut [u8; MAX_MESSAGES],
-    classes: &mut [u8; MAX_MESSAGES],
-    wants: &mut [u16; MAX_MESSAGES],
-    delivered: &mut [u8; MAX_MESSAGES],
-    holders: &mut [u16; MAX_CHANNELS],
+    wants: &[u16],
+    delivered: &[u8],
+    holders: &[u16],
 ) -> PickedIn
-    ensures { picked result.seed result.look result.message (packed nodes messages result.moves labels.now free.now falling.now targets.now heads.new classes.new wants.new delivered.new holders.new) ≡ pick_in span seed (packed nodes messages moves labels.now free.now falling.now targets.now heads.old classes.old wants.old delivered.old holders.old) }
+    ensures seed { result.seed ≡ next_seed seed }
+    ensures look { result.look ≡ look_at result.seed (min messages max_messages) }
+    ensures message { result.message ≡ chosen_by (min messages max_messages) (ready_at wants.now delivered.now holders.now) result.look }
 {
     let next = seeds::next_seed(seed);
     let from = seeds::look(next, machine::few(messages));
-    let chosen = choice(messages, wants, delivered, holders, from);
-    let done = machine::step_in(
-        nodes, messages, moves, span, labels, free, falling, targets, heads, classes, wants,
-        delivered, holders, chosen,
-    );
     PickedIn {
         seed: next,
         look: from,
-        message: chosen,
-        moves: done.moves,
+        message: choice(messages, wants, delivered, holders, from),
     }
+}
+
+// The next seed, where it says to look, and the move, in place, of the message that is found there. One that is delivered gives back only channels below `span`.
+pub fn pick_in<'a>(seed: u32, lent: &mut Lent<'a>, span: usize) -> PickedIn
+    ensures pick { picked result.seed result.look result.message (made_of lent.new) ≡ pick_in span seed (made_of lent.old) }
+    ensures lent { StaysLent lent.old lent.new }
+{
+    let wants = &mut *lent.wants;
+    let delivered = &mut *lent.delivered;
+    let holders = &mut *lent.holders;
+    let picked = found(seed, lent.messages, wants, delivered, holders);
+    machine::step_in(lent, span, picked.message);
+    picked
 }
 
 // The next seed, where it says to look, and the move of the message that is found there.
 pub fn pick(seed: u32, record: Record) -> Picked
     ensures { result ≡ pick_of seed «record» }
 {
-    let mut heads = record.heads;
-    let mut classes = record.classes;
-    let mut wants = record.wants;
-    let mut delivered = record.delivered;
-    let mut holders = record.holders;
-    let picked = pick_in(
+    let PickedIn {
         seed,
-        record.nodes,
+        look,
+        message,
+    } = found(
+        seed,
         record.messages,
-        record.moves,
-        MAX_CHANNELS,
-        &record.labels,
-        &record.free,
-        &record.falling,
-        &record.targets,
-        &mut heads,
-        &mut classes,
-        &mut wants,
-        &mut delivered,
-        &mut holders,
+        &record.wants,
+        &record.delivered,
+        &record.holders,
     );
-    let mut after = record;
-    after.moves = picked.moves;
-    after.heads = heads;
-    after.classes = classes;
-    after.wants = wants;
-    after.delivered = delivered;
-    after.holders = holders;
+    let moved = records::step(record, message);
     Picked {
-        seed: picked.seed,
-        look: picked.look,
-        message: picked.message,
-        record: after,
+        seed,
+        look,
+        message,
+        record: moved.record,
     }
 }
