@@ -1,6 +1,6 @@
 -- The verdict case by case: which tests, in plain terms, lead to which fault.
-use Rattle.std.specs.Prelude.{Err, Ok}
-use mathlib.Core.Path.{◌≡◌, sym, ap}
+use Rattle.std.specs.Prelude.{Some, None, Ok, Err}
+use mathlib.Core.Path.{◌≡◌, ap}
 use mathlib.Core.Bool.{Bool, false}
 use mathlib.Core.Logic.{◌⊎◌, inl, inr}
 use Prim.Native.Nat.{ℕ, ◌*◌, ◌/◌, ◌%◌, ◌≤◌, ◌<◌}
@@ -8,8 +8,10 @@ use native.Mathlib.Omega.{arith}
 use lib.ListN.{length}
 use Rattle.finite.specs.Truth.{below}
 use Rattle.finite.specs.Search.{least}
+use Rattle.finite.specs.Lowest.{lowest}
 use Rattle.finite.proofs.Truth.{lt-below, le_below}
 use Rattle.finite.proofs.Decide.{by, pass, fail, least-is, decide-least}
+use Rattle.finite.proofs.Lowest.{found-lowest, none-lowest}
 use Rattle.nodes.specs.Limits.{max_nodes, max_links}
 use Rattle.refusal.specs.declared.Refusal.{Refusal}
 use Rattle.refusal.specs.declared.Refusal.TheVariants.{Count, Shape, Ends, Order, Crowded, Apart}
@@ -58,22 +60,26 @@ module _ (c : Cabling) (k : ℕ) (before : (q : ℕ) → q < k → PairFine c q)
 
 -- ---- the lowest crowded node, the lowest that is not reached, and neither
 
-module _ (w : ℕ) (edge : ℕ → ℕ → Bool) (n : ℕ) {v : ℕ} (e : v ≡ least n (crowded w edge)) where
-  pub node-crowded : v < n → node_fault w edge n ≡ Err (Crowded v)
+module _ (w : ℕ) (edge : ℕ → ℕ → Bool) (n : ℕ) where
+  pub node-crowded : {v : ℕ} → lowest n (crowded w edge) ≡ Some v → node_fault w edge n ≡ Err (Crowded v)
   unfolding node_fault
-  node-crowded l = rw (lt-below {a = least n (crowded w edge)} {b = n} (omega arith), node_fault) (ap (λ (x : ℕ). Err (Crowded x)) (sym e))
+  node-crowded h =
+      let (e, l) = found-lowest _ _ h in
+      rw (lt-below {a = least n (crowded w edge)} {b = n} (omega arith), node_fault) (ap (λ (x : ℕ). Err (Crowded x)) e)
 
-  module _ (l : n ≤ v) {u : ℕ} (f : u ≡ least n (unreached w edge)) where
-    sparse : below (least n (crowded w edge)) n ≡ false
-    sparse = le_below (omega arith)
+  module _ (sparse : lowest n (crowded w edge) ≡ None) where
+    not-crowded : below (least n (crowded w edge)) n ≡ false
+    not-crowded = le_below (none-lowest _ _ sparse)
 
-    pub node_apart : u < n → node_fault w edge n ≡ Err (Apart u)
+    pub node_apart : {v : ℕ} → lowest n (unreached w edge) ≡ Some v → node_fault w edge n ≡ Err (Apart v)
     unfolding node_fault
-    node_apart k = rw (sparse, lt-below {a = least n (unreached w edge)} {b = n} (omega arith), node_fault) (ap (λ (x : ℕ). Err (Apart x)) (sym f))
+    node_apart h =
+        let (e, l) = found-lowest _ _ h in
+        rw (not-crowded, lt-below {a = least n (unreached w edge)} {b = n} (omega arith), node_fault) (ap (λ (x : ℕ). Err (Apart x)) e)
 
-    pub node-fine : n ≤ u → node_fault w edge n ≡ Ok tt
+    pub node-fine : lowest n (unreached w edge) ≡ None → node_fault w edge n ≡ Ok tt
     unfolding node_fault
-    node-fine k = rw (sparse, le_below {a = least n (unreached w edge)} {b = n} (omega arith), node_fault)
+    node-fine h = rw (not-crowded, le_below {a = least n (unreached w edge)} {b = n} (none-lowest _ _ h), node_fault)
 
 -- ---- the whole
 

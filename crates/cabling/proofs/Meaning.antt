@@ -7,7 +7,8 @@ use Prim.Native.Nat.{ℕ, ◌+◌, ◌-◌, ◌/◌, ◌≤◌, ◌<◌}
 use native.Mathlib.Nat.{le_refl}
 use native.Mathlib.Omega.{arith}
 use lib.ListN.{length}
-use Rattle.finite.proofs.Decide.{Decides, by, least-is, least-none, decide-least, decide_same}
+use Rattle.finite.proofs.Decide.{Decides, by, decide-least, decide_same}
+use Rattle.finite.proofs.Lowest.{lowest-is, lowest-not}
 use Rattle.graph.specs.Network.{Walk}
 use Rattle.nodes.specs.Limits.{max_degree}
 use Rattle.refusal.specs.declared.Refusal.TheVariants.{Count, Shape, Ends, Order, Crowded, Apart, Short}
@@ -64,15 +65,15 @@ module _ (c : Cabling) where
       let many = g.many in
       let walks = connected_walks c g.ends (omega arith) g.connected in
       to-nodes b
-      ∙ node-fine _ _ _ (sym (least-none _ (decide_crowded c.nodes (links c)) g.sparse)) (le_refl _) (sym (least-none _ (parts b) walks)) (le_refl _)
+      ∙ node-fine _ _ _ (lowest-not _ (decide_crowded c.nodes (links c)) g.sparse) (lowest-not _ (parts b) walks)
   answers (means_count h) = whole-count c h
   answers (means_shape h s) = whole_shape c h s
   answers (means_ends l b e) = to-links b ∙ link_bad c _ b.fine l (inl e) ∙ pair_ends c _ e
   answers (means_order l b e o) = to-links b ∙ link_bad c _ b.fine l (inr o) ∙ pair_order c _ e o
-  answers (means_crowded b l d u) = to-nodes b ∙ node-crowded _ _ _ (sym (least-is _ (decide_crowded c.nodes (links c)) _ l d u)) l
+  answers (means_crowded b l d u) = to-nodes b ∙ node-crowded _ _ _ (lowest-is _ (decide_crowded c.nodes (links c)) _ l d u)
   answers (means_apart b s l w u) =
       to-nodes b
-      ∙ node_apart _ _ _ (sym (least-none _ (decide_crowded c.nodes (links c)) s)) (le_refl _) (sym (least-is _ (parts b) _ l w u)) l
+      ∙ node_apart _ _ _ (lowest-not _ (decide_crowded c.nodes (links c)) s) (lowest-is _ (parts b) _ l w u)
 
   -- ---- and some row holds
 

@@ -2,7 +2,7 @@
 #![tactic(auto)]
 
 ghost use Rattle.std.specs.Prelude.{◌≡◌, ◌≤◌};
-ghost use Rattle.finite.specs.Search.{least};
+ghost use Rattle.finite.specs.Lowest.{lowest};
 ghost use Rattle.nodes.specs.Limits.{max_nodes};
 ghost use Rattle.network.specs.Table.{edge_of};
 ghost use Rattle.cabling.specs.Cabling.{cabled, low_end, high_end};
@@ -38,34 +38,21 @@ fn bad_ends(n: usize, pairs: &[u8], p: usize) -> bool
     ensures { result ≡ bad_ends (cabled n pairs.now) p }
 {
     let b = high_end(pairs, p);
-    if b <= low_end(pairs, p) {
-        return true;
-    }
-    n <= b
+    b <= low_end(pairs, p) || n <= b
 }
 
 // Is pair q above pair p, first by a, then by b?
 fn is_above(pairs: &[u8], p: usize, q: usize) -> bool
     ensures { result ≡ is_above pairs.now p q }
 {
-    let a = low_end(pairs, p);
-    let b = low_end(pairs, q);
-    if a == b {
-        high_end(pairs, p) < high_end(pairs, q)
-    } else {
-        a < b
-    }
+    (low_end(pairs, p), high_end(pairs, p)) < (low_end(pairs, q), high_end(pairs, q))
 }
 
 // Is pair p not above the one before?
 fn not_above(pairs: &[u8], p: usize) -> bool
     ensures { result ≡ not_above pairs.now p }
 {
-    if p == 0 {
-        false
-    } else {
-        !is_above(pairs, p - 1, p)
-    }
+    p != 0 && !is_above(pairs, p - 1, p)
 }
 
 // The fault of pair p: its ends before its place.
@@ -83,38 +70,31 @@ fn pair_fault(n: usize, pairs: &[u8], p: usize) -> Result<(), Refusal>
     Ok(())
 }
 
-// The lowest of the first n nodes with too many links, n where there is none.
-fn lowest_crowded(n: usize, t: &[u64]) -> usize
-    ensures { result ≡ least n (crowded max_nodes (edge_of t.now)) }
+// The lowest of the first n nodes with too many links.
+fn lowest_crowded(n: usize, t: &[u64]) -> Option<usize>
+    ensures { result ≡ lowest n (crowded max_nodes (edge_of t.now)) }
 {
-    for v in 0..n {
-        if MAX_DEGREE < network::degree(t, v) {
-            return v;
-        }
-    }
-    n
+    (0..n).find(|&v| MAX_DEGREE < network::degree(t, v))
 }
 
-// The lowest of the first n nodes that is not reached from node 0, n where there is none.
-fn lowest_apart(n: usize, t: &[u64]) -> usize
-    ensures { result ≡ least n (unreached max_nodes (edge_of t.now)) }
+// The lowest of the first n nodes that is not reached from node 0.
+fn lowest_apart(n: usize, t: &[u64]) -> Option<usize>
+    ensures { result ≡ lowest n (unreached max_nodes (edge_of t.now)) }
 {
     let seen = network::flood(t, nodes::one(0));
     let v = nodes::lowest(nodes::difference(nodes::first(n), seen));
-    if v < n { v } else { n }
+    if v < n { Some(v) } else { None }
 }
 
 // What is wrong at a node: too many links before no walk from node 0.
 fn node_fault(n: usize, t: &[u64]) -> Result<(), Refusal>
     ensures { result ≡ node_fault max_nodes (edge_of t.now) n }
 {
-    let v = lowest_crowded(n, t);
-    if v < n {
+    if let Some(v) = lowest_crowded(n, t) {
         return Err(Refusal::Crowded(v));
     }
-    let u = lowest_apart(n, t);
-    if u < n {
-        return Err(Refusal::Apart(u));
+    if let Some(v) = lowest_apart(n, t) {
+        return Err(Refusal::Apart(v));
     }
     Ok(())
 }
@@ -135,16 +115,10 @@ fn link_fault(n: usize, pairs: &[u8]) -> Result<(), Refusal>
 pub fn fault(n: usize, pairs: &[u8]) -> Result<(), Refusal>
     ensures { result ≡ fault_of (cabled n pairs.now) }
 {
-    if n < 2 {
+    if n < 2 || MAX_NODES < n {
         return Err(Refusal::Count);
     }
-    if MAX_NODES < n {
-        return Err(Refusal::Count);
-    }
-    if pairs.len() % 2 != 0 {
-        return Err(Refusal::Shape);
-    }
-    if 2 * MAX_LINKS < pairs.len() {
+    if pairs.len() % 2 != 0 || 2 * MAX_LINKS < pairs.len() {
         return Err(Refusal::Shape);
     }
     link_fault(n, pairs)

@@ -2,6 +2,7 @@ pub mod Truth
 pub mod Sum
 pub mod Pairs
 pub mod Search
+pub mod Lowest
 pub mod Decide
 pub mod Sets
 pub mod Words

@@ -1,16 +1,19 @@
--- `cabling::is_above` meets its contract: equal first ends leave it to the second.
-use mathlib.Core.Logic.{inl, inr, ⊎_elim}
-use native.Mathlib.Omega.{arith}
-use Rattle.finite.proofs.Decide.{agree, decide_ltb}
-use Rattle.cabling.proofs.Tests.{decide_above}
+-- `cabling::is_above` meets its contract: pairs are compared as the library compares them, by the first ends, and where these are equal, by the second.
+use Rattle.std.proofs.Common.{nat_lt, ◌==◌}
+use mathlib.Core.Path.{refl, ◌∙◌}
+use Rattle.finite.specs.Truth.{◌&◌, ◌or◌, same, below}
+use Rattle.finite.proofs.Truth.{bcase}
+use Rattle.cabling.specs.Cabling.{low_end, high_end}
+use Rattle.cabling.specs.Faults.{is_above}
 use Rattle.cabling.proofs.is_above.Goals as goal
 
-pub returns-then-a-b : goal.returns-then-a-b
-returns-then-a-b c =
-    agree (decide_ltb c.high_end.result c.high_end-then-a-b.result) (decide_above _ _ _) (λ h. inr (omega arith, omega arith))
-    (λ h. ⊎_elim (λ l. omega arith) (λ k. let l = k.1 in omega arith))
-
-pub returns-else-a-b : goal.returns-else-a-b
-returns-else-a-b c =
-    agree (decide_ltb c.low_end-a.result c.low_end-b.result) (decide_above _ _ _) (λ h. inl (omega arith))
-    (λ h. ⊎_elim (λ l. omega arith) (λ k. let e = k.0 in omega arith))
+pub returns : goal.returns
+unfolding is_above below same ◌or◌ ◌&◌
+returns c =
+    let s = c.args.pairs.now in
+    c.lt.ensures
+    ∙ rw (c.low_end.ensures, c.high_end.ensures, c.low_end-2.ensures, c.high_end-2.ensures)
+    (bcase (nat_lt (low_end s c.args.p) (low_end s c.args.q)) (λ t. rw t refl)
+    (λ f.
+    bcase (low_end s c.args.p == low_end s c.args.q) (λ e. bcase (nat_lt (high_end s c.args.p) (high_end s c.args.q)) (λ t. rw (f, e, t) refl) (λ g. bcase (high_end s c.args.p == high_end s c.args.q) (λ k. rw (f, e, g, k) refl) (λ k. rw (f, e, g, k) refl)))
+    (λ e. rw (f, e) refl)))

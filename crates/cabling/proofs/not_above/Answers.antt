@@ -1,5 +1,5 @@
 -- `cabling::not_above` meets its contract: the first pair has none before it.
-use mathlib.Core.Path.{sym, ap}
+use mathlib.Core.Path.{refl, sym, ap}
 use mathlib.Core.Logic.{inl}
 use Rattle.finite.specs.Truth.{non}
 use Rattle.finite.proofs.Truth.{not-non, and_true, true-non, ne_same}
@@ -8,9 +8,9 @@ use Rattle.cabling.specs.Faults.{not_above}
 use Rattle.cabling.proofs.Tests.{decide_order}
 use Rattle.cabling.proofs.not_above.Goals as goal
 
-pub returns-then-p-eq0 : goal.returns-then-p-eq0
-returns-then-p-eq0 c = sym (fail (decide_order _ _) (inl c.if-p-eq0.true))
-
-pub returns-else-p-eq0 : goal.returns-else-p-eq0
+pub returns-then-p-ne0 : goal.returns-then-p-ne0
 unfolding not_above
-returns-else-p-eq0 c = rw (true-non (ne_same c.if-p-eq0.false), and_true, not-non) (ap non c.is_above.ensures)
+returns-then-p-ne0 c = rw (true-non (ne_same c.if-p-ne0.true), and_true, not-non) (ap non c.is_above.ensures)
+
+pub returns-else-p-ne0 : goal.returns-else-p-ne0
+returns-else-p-ne0 c = rw c.if-p-ne0.false (sym (fail (decide_order _ _) (inl refl)))
