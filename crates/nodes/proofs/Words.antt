@@ -12,7 +12,7 @@ use Rattle.finite.specs.Sum.{count}
 use Rattle.finite.specs.Search.{least}
 use Rattle.finite.specs.Sets.{has, set_of, without}
 use Rattle.finite.proofs.Truth.{bcase, refute, true-non, ne_same, below-lt, below-le, lt-below}
-use Rattle.finite.proofs.Sum.{sum-without, count_cong}
+use Rattle.finite.proofs.Sum.{sum-without, count-without, count_cong}
 use Rattle.finite.proofs.Search.{least-fact, least-before, least_cong}
 use Rattle.finite.proofs.Sets.{has-lt, has_0, has-set_of, set_of_out, set_of-lt, set_of_cong, set_of-has, set_ext, set-empty, and_set, or_set, not_set, one_set, without_other}
 
@@ -37,6 +37,13 @@ and_set_of n w p h =
 -- `a & !b`
 pub and_not : (n a b : ℕ) → a < 2 ^ n → b < 2 ^ n → bit_and a (2 ^ n - 1 - b) ≡ set_of n (λ u. has a u & non (has b u))
 and_not n a b h k = ap (bit_and a) (not_set n b k) ∙ and_set_of n a (λ u. non (has b u)) h
+
+-- `w & !(1 << v)`
+pub and_not_one : (n w v : ℕ) {o : ℕ} → w < 2 ^ n → o ≡ set_of n (same v) → bit_and w (2 ^ n - 1 - o) ≡ set_of n (without (has w) v)
+unfolding without
+and_not_one n w v h e =
+    and_not n w _ h (let k = set_of-lt n (same v) in omega arith)
+    ∙ set_of_cong n _ _ (λ u l. ap (λ (b : Bool). has w u & non b) (ap (λ (x : ℕ). has x u) e ∙ has-set_of n (same v) u l))
 
 -- ---- members
 
@@ -69,6 +76,13 @@ without-none n w v h f = set_ext n w (without (has w) v) h (λ u l. sym (without
 
 -- ---- size and lowest member
 
+-- the size and the lowest member of a set made from a test
+pub size-set_of : (n : ℕ) (p : ℕ → Bool) → count n (has (set_of n p)) ≡ count n p
+size-set_of n p = count_cong n (has (set_of n p)) p (has-set_of n p)
+
+pub lowest-set_of : (n : ℕ) (p : ℕ → Bool) → least n (has (set_of n p)) ≡ least n p
+lowest-set_of n p = least_cong n (has (set_of n p)) p (has-set_of n p)
+
 -- the lowest member of a word that is not empty is below n and a member
 pub lowest-lt : (n w : ℕ) → w < 2 ^ n → (w ≡ 0 → ⊥) → least n (has w) < n
 lowest-lt n w h z =
@@ -86,19 +100,19 @@ next-less n {w} {v} h z e d =
     let k = without-less n w v h (ap (has w) e ∙ lowest_in n w h z) in
     omega arith
 
+-- and it has a member less
+pub rest-fewer : (n : ℕ) {w r : ℕ} → w < 2 ^ n → (w ≡ 0 → ⊥) → r ≡ set_of n (without (has w) (least n (has w))) → count n (has r) < count n (has w)
+rest-fewer n {w} {r} h z d =
+    let k = count-without n (has w) (least n (has w)) (lowest-lt n w h z) (lowest_in n w h z) in
+    let s = ap (λ (x : ℕ). count n (has x)) d ∙ size-set_of n (without (has w) (least n (has w))) in
+    omega arith
+
 -- the rest of a set is the set without its lowest member, under whichever name the code has that one
 pub rest_at : (n w : ℕ) {v r : ℕ} → v ≡ least n (has w) → r ≡ set_of n (without (has w) (least n (has w))) → r ≡ set_of n (without (has w) v)
 rest_at n w e d = d ∙ ap (λ (u : ℕ). set_of n (without (has w) u)) (sym e)
 
 pub word_lt : (n : ℕ) (p : ℕ → Bool) {r : ℕ} → r ≡ set_of n p → r < 2 ^ n
 word_lt n p e = let k = set_of-lt n p in omega arith
-
--- the size and the lowest member of a set made from a test
-pub size-set_of : (n : ℕ) (p : ℕ → Bool) → count n (has (set_of n p)) ≡ count n p
-size-set_of n p = count_cong n (has (set_of n p)) p (has-set_of n p)
-
-pub lowest-set_of : (n : ℕ) (p : ℕ → Bool) → least n (has (set_of n p)) ≡ least n p
-lowest-set_of n p = least_cong n (has (set_of n p)) p (has-set_of n p)
 
 -- ---- where only numbers below n pass p, a word of m digits, no fewer, has the same set
 

@@ -2,12 +2,14 @@
 #![tactic(auto)]
 
 ghost use Rattle.std.specs.Prelude.{◌≡◌, min, eqb};
+ghost use Rattle.std.specs.Iterator.{at_most};
 ghost use Rattle.finite.specs.Truth.{◌&◌, ◌or◌, non, same, below};
 ghost use Rattle.finite.specs.Sum.{count};
 ghost use Rattle.finite.specs.Search.{least};
 ghost use Rattle.finite.specs.Sets.{has, set_of, without};
 ghost use Rattle.nodes.specs.Limits.{max_nodes};
 ghost use Rattle.nodes.specs.Members.{members};
+ghost use Rattle.nodes.specs.InOrder.{PassesLowest};
 
 // RULES 3.1: "2 to 64 nodes"
 pub const MAX_NODES: usize = 64;
@@ -22,6 +24,7 @@ pub const MAX_DEGREE: usize = 16;
 pub const NONE: u8 = 255;
 
 // One word of 64 bits: node v is a member where bit v is set. Other crates know a set by its members alone.
+// An alias: the rows of a table are lent as `&[u64]`, and what they hold is said of these words (`edge_of`).
 pub type Set = u64;
 
 // The empty set.
@@ -42,11 +45,7 @@ pub fn is_empty(w: Set) -> bool
 pub fn has(w: Set, v: usize) -> bool
     ensures { result ≡ has (members w) v }
 {
-    if v < MAX_NODES {
-        (w >> v) % 2 == 1
-    } else {
-        false
-    }
+    v < MAX_NODES && (w >> v) % 2 == 1
 }
 
 // The set of v alone.
@@ -60,7 +59,7 @@ pub fn one(v: usize) -> Set
 pub fn capped(n: usize) -> usize
     ensures { result ≡ min n max_nodes }
 {
-    if n < MAX_NODES { n } else { MAX_NODES }
+    n.min(MAX_NODES)
 }
 
 // The set of the first n nodes: all 64 where n is 64 or more.
@@ -81,7 +80,7 @@ pub fn with(w: Set, v: usize) -> Set
 pub fn without(w: Set, v: usize) -> Set
     ensures { members result ≡ set_of max_nodes (without (has (members w)) v) }
 {
-    if has(w, v) { w - one(v) } else { w }
+    w & !one(v)
 }
 
 // The nodes in either set.
@@ -109,22 +108,50 @@ pub fn difference(a: Set, b: Set) -> Set
 pub fn size(w: Set) -> usize
     ensures { result ≡ count max_nodes (has (members w)) }
 {
-    u64::count_ones(w) as usize
+    // A `u32`, of which the library makes no `usize` by `from`.
+    w.count_ones() as usize
 }
 
 // The lowest node of the set, from its trailing zeros: 64 where the set is empty.
 pub fn lowest(w: Set) -> usize
     ensures { result ≡ least max_nodes (has (members w)) }
 {
-    u64::trailing_zeros(w) as usize
+    w.trailing_zeros() as usize
 }
 
 // The set without its lowest node, in one step.
 pub fn rest(w: Set) -> Set
     ensures { members result ≡ set_of max_nodes (without (has (members w)) (least max_nodes (has (members w)))) }
 {
-    if w == 0 {
-        return 0;
+    without(w, lowest(w))
+}
+
+// The members of a set that are still to come, the lowest first.
+#[derive(Drop)]
+pub struct InOrder {
+    pub left: Set,
+}
+
+impl Iterator for InOrder {
+    type Item = usize;
+
+    ghost next_gives = { λ s r t. PassesLowest s.left r t.left };
+
+    ghost remaining = { λ s. at_most (count max_nodes (has (members s.left))) };
+
+    fn next(&mut self) -> Option<usize> {
+        if is_empty(self.left) {
+            return None;
+        }
+        let v = lowest(self.left);
+        self.left = rest(self.left);
+        Some(v)
     }
-    w - one(lowest(w))
+}
+
+// Each member of the set in turn.
+pub fn each(w: Set) -> InOrder
+    ensures { members result.left ≡ members w }
+{
+    InOrder { left: w }
 }
