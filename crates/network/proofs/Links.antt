@@ -1,19 +1,21 @@
 -- Tables made link by link: what one pair adds, and that all pairs together make the table of a list of pairs.
 use mathlib.Core.Path.{◌≡◌, refl, sym, ◌∙◌, ap, ap₂}
 use mathlib.Core.Bool.{Bool, true, false}
-use mathlib.Core.List.{List}
-use Prim.Native.Nat.{ℕ, ◌+◌, ◌*◌, ◌/◌, ◌^◌, ◌<◌}
+use mathlib.Core.List.{List, ◌++◌}
+use Prim.Native.Nat.{ℕ, ◌+◌, ◌*◌, ◌/◌, ◌≤◌, ◌<◌}
+use native.Mathlib.Nat.{add-zero}
 use native.Mathlib.Numerals.{add-one}
+use native.Mathlib.Omega.{arith}
 use lib.Dec.{lit<}
-use lib.ListN.{length, get_or, set, replicate, length-set, length-replicate}
-use lib.Seq.{get_or-set_same, get_or-set_other}
+use lib.ListN.{length, get_or, set, drop, replicate, length-set, length-append, length-drop, length-replicate, get_or-append}
+use lib.Seq.{get_or-set_same, get_or-set_other, get_or-drop, drop-drop, drop-append_seam}
 use Rattle.finite.specs.Truth.{◌or◌, same}
 use Rattle.finite.specs.Search.{any}
 use Rattle.finite.specs.Sets.{has, set_of}
 use Rattle.finite.proofs.Truth.{bcase, iff, refute, both, and_l, and_r, or_l, or_r, or_case, or_false, non-true, true-non, same_refl, same-eq, same-ne, eq-same, ne_same}
 use Rattle.finite.proofs.Search.{any-more}
 use Rattle.finite.proofs.Lists.{get_or-zeros}
-use Rattle.finite.proofs.Sets.{has_0, has-set_of, set_of-lt}
+use Rattle.finite.proofs.Sets.{has_0, has-set_of}
 use Rattle.nodes.specs.Limits.{max_nodes}
 use Rattle.network.specs.Table.{joins, linked_by, linked, neighbours_of, edge_of, table_from}
 use Rattle.network.proofs.Table.{Words, table_ext}
@@ -85,13 +87,6 @@ module _ (t : List ℕ) (a b : ℕ) {v w : ℕ} (size : length t ≡ max_nodes) 
       ap (λ (r : ℕ). has r y) (get_or-set_other (set t a v) b x w 0 nb ∙ get_or-set_other t a x v 0 na)
       ∙ sym (ap (λ (j : Bool). j or has (get_or t x 0) y) (refute _ (λ j. joins-ends a b x y j (λ e f. na (sym e)) (λ e f. nb (sym f)))) ∙ or_false _)))
 
-  pub link-words : (x : ℕ) → get_or t x 0 < 2 ^ max_nodes → get_or (set (set t a v) b w) x 0 < 2 ^ max_nodes
-  link-words x h =
-      bcase (same x a) (λ q. rw (same-eq x a q, at_a, ev) (set_of-lt max_nodes _))
-      (λ q.
-      bcase (same x b) (λ p. rw (same-eq x b p, at_b, ew) (set_of-lt max_nodes _))
-      (λ p. rw (get_or-set_other (set t a v) b x w 0 (same-ne x b p), get_or-set_other t a x v 0 (same-ne x a q)) h))
-
 -- ---- pair by pair
 
 pub linked_by-none : (pairs : List ℕ) (x y : ℕ) → linked_by 0 pairs x y ≡ false
@@ -102,6 +97,44 @@ pub linked_by-more : (i : ℕ) (pairs : List ℕ) (x y : ℕ)
     → linked_by (i + 1) pairs x y ≡ joins (get_or pairs (2 * i) 0) (get_or pairs (2 * i + 1) 0) x y or linked_by i pairs x y
 unfolding linked_by
 linked_by-more i pairs x y = ap (λ (k : ℕ). any k (λ j. joins (get_or pairs (2 * j) 0) (get_or pairs (2 * j + 1) 0) x y)) (add-one i) ∙ any-more i _
+
+-- the pairs behind the first i, as the loop over pairs has them left
+pub record Pairs (pairs : List ℕ) (i : ℕ) (behind : List ℕ) (size : ℕ) : Type 0 where
+  pub two : size ≡ 2
+  pub left : behind ≡ drop (2 * i) pairs
+  pub room : 2 * i ≤ length pairs
+
+pub pairs_none : {pairs behind : List ℕ} {size : ℕ} → behind ≡ pairs → size ≡ 2 → Pairs pairs 0 behind size
+pairs_none e two = record { two = two; left = e; room = omega arith }
+
+-- the next pair
+module _ (pair next : List ℕ) {pairs left : List ℕ} {i size : ℕ} (p : Pairs pairs i left size) (e : left ≡ pair ++ next) (l : length pair ≡ size) where
+  at : (k : ℕ) → k < 2 → get_or pair k 0 ≡ get_or pairs (2 * i + k) 0
+  at k h =
+      sym (get_or-append pair next 0 k (let t = p.two in omega arith)) ∙ ap (λ (x : List ℕ). get_or x k 0) (sym e ∙ p.left)
+      ∙ get_or-drop (2 * i) pairs k 0
+
+  pub first : get_or pair 0 0 ≡ get_or pairs (2 * i) 0
+  first = at 0 (omega arith) ∙ ap (λ (k : ℕ). get_or pairs k 0) (add-zero (2 * i))
+
+  pub second : get_or pair 1 0 ≡ get_or pairs (2 * i + 1) 0
+  second = at 1 (omega arith)
+
+  pub pairs_more : Pairs pairs (i + 1) next size
+  pairs_more = record {
+    two = p.two;
+    left = sym (drop-append_seam pair next) ∙ ap₂ (λ (n : ℕ) (x : List ℕ). drop n x) (l ∙ p.two) (sym e ∙ p.left) ∙ drop-drop 2 (2 * i) pairs
+        ∙ ap (λ (n : ℕ). drop n pairs) (omega arith);
+    room = let a = length-append pair next in let b = ap length (sym e ∙ p.left) in let d = length-drop (2 * i) pairs in let t = p.two in omega arith;
+  }
+
+pub pairs_all : {pairs left : List ℕ} {i size : ℕ} → Pairs pairs i left size → length left < size → i ≡ length pairs / 2
+pairs_all {pairs} {i = i} p h =
+    let d = length-drop (2 * i) pairs in
+    let a = ap length p.left in
+    let t = p.two in
+    let r = p.room in
+    omega arith
 
 -- the table holds the links of the first i pairs
 pub record Linking (pairs t : List ℕ) (i : ℕ) : Type 0 where

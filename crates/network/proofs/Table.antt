@@ -6,11 +6,11 @@ use Prim.Native.Nat.{ℕ, ◌^◌, ◌≤◌, ◌<◌}
 use native.Mathlib.Omega.{arith}
 use lib.Dec.{lit<}
 use lib.ListN.{length, get_or, set, length-set}
-use lib.Seq.{get_or-set_same, get_or-set_other}
+use lib.Seq.{get_or-set_same, get_or-set_other, set_out}
 use Rattle.finite.specs.Truth.{◌&◌, non, same, below}
 use Rattle.finite.specs.Sets.{has, set_of, without}
 use Rattle.finite.specs.Lists.{tabulate}
-use Rattle.finite.proofs.Truth.{no_tf, bcase, iff, refute, both, and_l, and_r, and_true, non-true, true-non, same_refl, same-eq, same-ne, ne_same, lt-below}
+use Rattle.finite.proofs.Truth.{no_tf, bcase, iff, refute, both, and_l, and_r, and_true, non-true, true-non, same_refl, same-eq, same-ne, ne_same, lt-below, below-lt, below-le}
 use Rattle.finite.proofs.Sets.{has-lt, has_0, has-set_of, set_of_cong, set_ext}
 use Rattle.finite.proofs.Lists.{tabulate-length, tabulate-at, tabulate_cong, tabulate_ext}
 use Rattle.finite.proofs.Filling.{Filling}
@@ -88,7 +88,7 @@ unfolding avoid among
 own_row t v = set_ext max_nodes 0 _ (lit< tt) (λ b k. has_0 b ∙ sym (refute _ (λ h. no_tf (same_refl v) (non-true _ (and_l _ _ h)))))
 
 -- every row has lost v; then its own is emptied, where there is one
-module _ {t new : List ℕ} {v all w u : ℕ} (a : all ≡ set_of max_nodes (λ x. below x max_nodes)) (e : w ≡ set_of max_nodes (without (has all) v))
+module _ (v : ℕ) {t new : List ℕ} {all w u : ℕ} (a : all ≡ set_of max_nodes (λ x. below x max_nodes)) (e : w ≡ set_of max_nodes (without (has all) v))
     (s : Filling (masked t w) t new u) (l : length t ≤ u) where
   other_row : (x : ℕ) → (v ≡ x → ⊥) → masked t w x ≡ set_of max_nodes (avoid v (edge_of t) x)
   unfolding avoid among edge_of
@@ -97,13 +97,18 @@ module _ {t new : List ℕ} {v all w u : ℕ} (a : all ≡ set_of max_nodes (λ 
       iff _ _ (λ h. both (true-non (ne_same d)) (both (sym (others v a e b k) ∙ and_r _ _ h) (and_l _ _ h)))
       (λ h. both (and_r _ _ (and_r _ _ h)) (others v a e b k ∙ and_l _ _ (and_r _ _ h))))
 
-  pub struck : v < length t → set new v 0 ≡ struck_out v t
+  struck : v < length t → set new v 0 ≡ struck_out v t
   unfolding struck_out
   struck k =
       tabulate_ext (length t) _ 0 (set new v 0) (length-set new v 0 ∙ s.size) (λ x h.
       bcase (same v x) (λ q. rw (← same-eq v x q) (get_or-set_same new v 0 0 (rw s.size k) ∙ own_row t v))
       (λ q. let d = same-ne v x q in get_or-set_other new v x 0 0 (λ p. d (sym p)) ∙ s.passed x (omega arith) ∙ other_row x d))
 
-  pub struck-none : length t ≤ v → new ≡ struck_out v t
+  struck-none : length t ≤ v → new ≡ struck_out v t
   unfolding struck_out
   struck-none k = tabulate_ext (length t) _ 0 new s.size (λ x h. s.passed x (omega arith) ∙ other_row x (λ p. omega arith))
+
+  pub struck-all : (none : ℕ) {last : List ℕ} → none ≡ 0 → last ≡ set new v none → last ≡ struck_out v t
+  struck-all none z e =
+      e ∙ ap (set new v) z
+      ∙ bcase (below v (length t)) (λ h. struck (below-lt _ _ h)) (λ h. let k = below-le _ _ h in set_out new v 0 (rw s.size k) ∙ struck-none k)

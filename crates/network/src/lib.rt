@@ -20,7 +20,7 @@ pub type Table = [u64; MAX_NODES];
 pub fn neighbours(t: &[u64], v: usize) -> Set
     ensures { members result ≡ neighbours_of t.now v }
 {
-    if v < t.len() { t[v] } else { nodes::none() }
+    slices::get(t, v, nodes::none())
 }
 
 // The number of v's links: the number of ones in its neighbour word.
@@ -36,13 +36,7 @@ fn link(t: &mut [u64], a: usize, b: usize)
     ensures links { (x y : ℕ) → x < max_nodes → y < max_nodes → edge_of t.new x y ≡ joins a b x y or edge_of t.old x y }
     ensures words { (x : ℕ) → get_or t.old x 0 < 2 ^ max_nodes → get_or t.new x 0 < 2 ^ max_nodes }
 {
-    if a == b {
-        return;
-    }
-    if MAX_NODES <= a {
-        return;
-    }
-    if MAX_NODES <= b {
+    if a == b || MAX_NODES <= a || MAX_NODES <= b {
         return;
     }
     t[a] = nodes::with(neighbours(t, a), b);
@@ -54,12 +48,8 @@ pub fn table_of(pairs: &[u8]) -> Table
     ensures { result ≡ table_of pairs.now }
 {
     let mut t = [0u64; MAX_NODES];
-    for i in 0..pairs.len() / 2 {
-        link(
-            &mut t,
-            slices::byte_at(pairs, 2 * i),
-            slices::byte_at(pairs, 2 * i + 1),
-        );
+    for pair in pairs.chunks_exact(2) {
+        link(&mut t, usize::from(pair[0]), usize::from(pair[1]));
     }
     t
 }
@@ -80,8 +70,8 @@ pub fn restrict(t: &[u64], w: Set) -> Table
     ensures { result ≡ remaining (has (members w)) (edge_of t.now) }
 {
     let mut rest = [0u64; MAX_NODES];
-    for u in 0..MAX_NODES {
-        rest[u] = kept_row(neighbours(t, u), w, u);
+    for (u, row) in rest.iter_mut().enumerate() {
+        *row = kept_row(neighbours(t, u), w, u);
     }
     rest
 }
@@ -91,15 +81,13 @@ pub fn strike(t: &mut [u64], v: usize)
     ensures { t.new ≡ struck_out v t.old }
 {
     let others = nodes::without(nodes::first(MAX_NODES), v);
-    for u in 0..t.len() {
-        t[u] = nodes::common(neighbours(t, u), others);
+    for row in t.iter_mut() {
+        *row = nodes::common(*row, others);
     }
-    if v < t.len() {
-        t[v] = nodes::none();
-    }
+    slices::put(t, v, nodes::none());
 }
 
-// The nodes that walks lead to from the nodes of start.
+// The nodes that walks lead to from the nodes of start. No walk over one set's members: the front grows on the way.
 pub fn flood(t: &[u64], start: Set) -> Set
     ensures { members result ≡ reach max_nodes (edge_of t.now) (has (members start)) }
 {

@@ -1,5 +1,4 @@
 -- `network::restrict` meets its contract. The invariant: rows passed are restricted.
-use Prim.Native.Nat.{◌-◌, ◌≤◌}
 use Rattle.finite.specs.Sets.{has, set_of}
 use Rattle.graph.specs.Network.{among}
 use Rattle.nodes.specs.Limits.{max_nodes}
@@ -9,7 +8,4 @@ use Rattle.finite.proofs.Filling.{Filling}
 use Rattle.network.proofs.restrict.Given as goal
 
 abbrev pub invariant-loop-u : goal.invariant-loop-u
-invariant-loop-u l = Filling (λ a. set_of max_nodes (among (has (members l.w)) (edge_of l.t) a)) l.initial.rest l.rest l.u × (l.u ≤ max_nodes)
-
-abbrev pub decreases-loop-u : goal.decreases-loop-u
-decreases-loop-u l = max_nodes - l.u
+invariant-loop-u l = Filling (λ a. set_of max_nodes (among (has (members l.w)) (edge_of l.t) a)) l.initial.row-items l.row-items l.u

@@ -1,40 +1,28 @@
--- `network::table_of` meets its contract. The invariant: the table holds the links of the pairs passed.
-use mathlib.Core.Path.{sym}
+-- `network::table_of` meets its contract: pair by pair.
+use mathlib.Core.Path.{◌∙◌}
 use native.Mathlib.Omega.{arith}
-use Rattle.network.proofs.Links.{linking_none, linking_more, linking_all}
+use Rattle.std.proofs.lemmas.List.{length_push}
+use Rattle.network.proofs.Links.{linking_none, linking_more, linking_all, pairs_none, pairs_more, pairs_all, first, second}
 use Rattle.network.proofs.table_of.Goals as goal
 
-pub loop-i-init : goal.loop-i-init
-loop-i-init c = (linking_none _, omega arith, omega arith)
+pub loop-pair-init : goal.loop-pair-init
+loop-pair-init c =
+    let e = c.chunks_exact-pair-items.ensures in
+    (linking_none _, rw c.into_iter-pair-iterator.ensures.into_iter_gives (pairs_none e.rest e.size))
 
-pub slice_bounds-link-end : goal.slice_bounds-link-end
-slice_bounds-link-end c = sym c.loop-i.invariant.0.size
-
-pub overflow_mul-i : goal.overflow_mul-i
-overflow_mul-i c = omega arith
-
-pub overflow_mul-i-in-loop-i : goal.overflow_mul-i-in-loop-i
-overflow_mul-i-in-loop-i c = omega arith
-
-pub overflow_add-i : goal.overflow_add-i
-overflow_add-i c = omega arith
-
-pub link-requires : goal.link-requires
-link-requires c = c.loop-i.invariant.0.size
-
-pub overflow_step-i : goal.overflow_step-i
-overflow_step-i c = omega arith
-
-pub loop-i-smaller : goal.loop-i-smaller
-loop-i-smaller c = omega arith
-
-pub loop-i-preserved : goal.loop-i-preserved
-loop-i-preserved c =
-    let inv = c.loop-i.invariant.0 in (
-      linking_more inv c.byte_at.ensures c.byte_at-in-loop-i.ensures (omega arith) (λ a. c.link.ensures.words a (inv.words a)) c.link.ensures.links,
-      omega arith,
-      omega arith,
+pub loop-pair-preserved : goal.loop-pair-preserved
+loop-pair-preserved c =
+    let s = c.in-Some.ensures.steps in
+    let l = c.loop-pair.invariant.0 in
+    let p = c.loop-pair.invariant.1 in
+    let k = c.link.ensures in
+    let pair = c.in-Some.pair.now in
+    let next = c.next.new.self.rest.now in
+    rw length_push (
+      linking_more l (c.from.ensures ∙ first pair next p s.1.0 s.1.1) (c.from-in-loop-pair.ensures ∙ second pair next p s.1.0 s.1.1) (omega arith)
+          (λ a. k.words a (l.words a)) k.links,
+      rw s.0 (pairs_more pair next p s.1.0 s.1.1),
     )
 
 pub returns : goal.returns
-returns c = linking_all c.loop-i.invariant.0 (omega arith)
+returns c = linking_all c.loop-pair.invariant.0 (pairs_all c.loop-pair.invariant.1 (c.in-None.ensures.steps.1.0))
