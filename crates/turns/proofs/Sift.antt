@@ -5,21 +5,12 @@ use Prim.Native.Nat.{ℕ, ◌+◌, ◌^◌, ◌<◌}
 use native.Mathlib.Omega.{arith}
 use lib.Dec.{lit<}
 use Rattle.finite.specs.Truth.{◌&◌, ◌or◌, non, same, below}
-use Rattle.finite.specs.Search.{least}
-use Rattle.finite.specs.Sets.{has, set_of, without}
-use Rattle.finite.proofs.Truth.{no_tf, iff, refute, both, and_l, and_r, true_and, and_false, or_false, non-true, true-non, same-eq, below-lt, below-le, lt-below, le_below, false_or}
-use Rattle.finite.proofs.Sets.{has_0, has-set_of, set_of_cong, set_ext}
+use Rattle.finite.specs.Sets.{has, set_of}
+use Rattle.finite.proofs.Truth.{iff, bcase, and_false, or_false, non-true, true-non, same-eq, same-ne, below-lt, below-le, lt-below, le_below, false_or}
+use Rattle.finite.proofs.Sets.{has_0, has-set_of, set_ext}
 use Rattle.nodes.specs.Limits.{max_nodes}
-use Rattle.nodes.proofs.Words.{lowest_in, word_lt}
-
--- the set of u alone where it passes, and the empty set where it fails, is the set of what is u and passes
-pub one_passes : (p : ℕ → Bool) (u : ℕ) → p u ≡ true → set_of max_nodes (same u) ≡ set_of max_nodes (λ a. same u a & p a)
-one_passes p u h = set_of_cong max_nodes (same u) (λ a. same u a & p a) (λ a l. iff _ _ (λ t. both t (sym (ap p (same-eq u a t)) ∙ h)) (and_l _ _))
-
-pub one_fails : (p : ℕ → Bool) (u : ℕ) → p u ≡ false → 0 ≡ set_of max_nodes (λ a. same u a & p a)
-one_fails p u h =
-    set_ext max_nodes 0 (λ a. same u a & p a) (lit< tt) (λ a l.
-    has_0 a ∙ sym (refute _ (λ t. no_tf (and_r _ _ t) (sym (ap p (same-eq u a (and_l _ _ t))) ∙ h))))
+use Rattle.nodes.proofs.Words.{word_lt}
+use Rattle.nodes.proofs.Passing.{Pass}
 
 pub record Sifting (p : ℕ → Bool) (w found left : ℕ) : Type 0 where
   pub found_word : found < 2 ^ max_nodes
@@ -33,24 +24,38 @@ sift_none p w l = record {
   parts = λ a k. ap (λ (b : Bool). b or has w a & p a) (has_0 a) ∙ or_false _;
 }
 
--- a member goes from what is left to what is found, if it passes
-move : (f l s p : Bool) → (s ≡ true → l ≡ true) → (f or s & p) or (l & non s) & p ≡ f or l & p
-unfolding ◌&◌ ◌or◌ non
-move true l s p h = refl
-move false true true p h = false_or p
-move false false true p h = no_tf (h refl) refl
-move false l false p h = ap (λ (b : Bool). b & p) (true_and l)
+-- one member more: it goes to what is found where it passes
+more_found : (x : Bool) → (x or true) or false & true ≡ x or true & true
+unfolding ◌&◌ ◌or◌
+more_found true = refl
+more_found false = refl
 
-pub sift_more : {p : ℕ → Bool} {w found left u one found' left' : ℕ} → Sifting p w found left → (left ≡ 0 → ⊥) → u ≡ least max_nodes (has left)
-    → one ≡ set_of max_nodes (λ a. same u a & p a) → found' ≡ set_of max_nodes (λ a. has found a or has one a) → left' ≡ set_of max_nodes (without (has left) u)
-    → Sifting p w found' left'
-unfolding without
-sift_more {p} {w} {found} {left} {u} s z low o f r = record {
-  found_word = word_lt max_nodes _ f;
-  left_word = word_lt max_nodes _ r;
-  parts = λ a l. rw (f, r, o) (simp (has-set_of max_nodes)
-      (move _ _ _ _ (λ t. ap (has left) (sym (same-eq u a t) ∙ low) ∙ lowest_in max_nodes left s.left_word z) ∙ s.parts a l));
-}
+not_found : (x b : Bool) → x or false & b ≡ x or true & false
+unfolding ◌&◌ ◌or◌
+not_found true b = refl
+not_found false b = refl
+
+module _ (p : ℕ → Bool) {w found left u next : ℕ} (s : Sifting p w found left) (q : Pass left u next) where
+  pub sift_takes : p u ≡ true → (found' : ℕ) → found' ≡ set_of max_nodes (λ a. has found a or same u a) → Sifting p w found' next
+  sift_takes h found' f = record {
+    found_word = word_lt max_nodes _ f;
+    left_word = q.word;
+    parts = λ a l.
+        ap (λ (b : Bool). b or has next a & p a) (ap (λ (x : ℕ). has x a) f ∙ has-set_of max_nodes _ a l)
+        ∙ bcase (same u a)
+        (λ t. rw (t, ← same-eq u a t, q.gone, q.here, h) (more_found (has found u)))
+        (λ t. rw (t, false_or, q.kept a (λ e. same-ne u a t (sym e))) refl) ∙ s.parts a l;
+  }
+
+  pub sift_passes : p u ≡ false → Sifting p w found next
+  sift_passes h = record {
+    found_word = s.found_word;
+    left_word = q.word;
+    parts = λ a l.
+        bcase (same u a)
+        (λ t. rw (← same-eq u a t, q.gone, q.here, h) (not_found (has found u) false))
+        (λ t. rw (q.kept a (λ e. same-ne u a t (sym e))) refl) ∙ s.parts a l;
+  }
 
 pub sift_all : {p : ℕ → Bool} {w found left : ℕ} → Sifting p w found left → left ≡ 0 → found ≡ set_of max_nodes (λ a. has w a & p a)
 sift_all {p} s z = set_ext max_nodes _ _ s.found_word (λ a l. simp (z, has_0, and_false, false_or) at (s.parts a l))

@@ -5,4 +5,4 @@ use Rattle.turns.proofs.falling.Goals as goal
 
 pub returns : goal.returns
 unfolding falls edge_of
-returns c = rw (c.lower.ensures, c.byte_at.ensures, c.neighbours.ensures)
+returns c = rw (c.lower.ensures, c.from.ensures, c.byte.ensures, c.neighbours.ensures)

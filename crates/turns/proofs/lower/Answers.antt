@@ -1,22 +1,24 @@
--- `turns::lower` meets its contract. The invariant: what is found, and what is left and has a lower label, is all of w that has one.
-use mathlib.Core.Path.{refl}
-use Rattle.nodes.specs.Limits.{max_nodes}
-use Rattle.nodes.proofs.Words.{next-less, rest_at}
-use Rattle.nodes.proofs.Members.{members-lt, some_left, none_left}
-use Rattle.turns.proofs.Sift.{sift_none, sift_more, sift_all}
+-- `turns::lower` meets its contract: member by member.
+use native.Mathlib.Omega.{arith}
+use Rattle.finite.proofs.Truth.{lt-below, le_below}
+use Rattle.nodes.proofs.Members.{members-lt}
+use Rattle.nodes.proofs.Passing.{pass}
+use Rattle.turns.proofs.Sift.{sift_none, sift_takes, sift_passes, sift_all}
 use Rattle.turns.proofs.lower.Goals as goal
 
 pub loop-u-init : goal.loop-u-init
-loop-u-init c = rw c.none-found.ensures (sift_none _ _ (members-lt _ c.ranges.w.fits))
+loop-u-init c =
+    rw (c.into_iter-u-iterator.ensures.into_iter_gives, c.each-u-items.ensures, c.none-found.ensures) (sift_none _ _ (members-lt _ c.ranges.w.fits))
 
-pub loop-u-smaller : goal.loop-u-smaller
-loop-u-smaller c =
-    next-less max_nodes c.loop-u.invariant.left_word (some_left c.is_empty.ensures c.loop-u-test.true) refl c.rest-left.ensures
+pub loop-u-preserved-then-from-x : goal.loop-u-preserved-then-from-x
+loop-u-preserved-then-from-x c =
+    let s = c.loop-u.invariant in
+    sift_takes _ s (pass s.left_word c.next.ensures.steps c.in-Some.is) (lt-below (omega arith)) _ c.with-found.ensures
 
 pub loop-u-preserved : goal.loop-u-preserved
 loop-u-preserved c =
-    sift_more c.loop-u.invariant (some_left c.is_empty.ensures c.loop-u-test.true) c.lowest-u.ensures
-    c.one_lower.ensures c.union-found.ensures (rest_at max_nodes _ c.lowest-u.ensures c.rest-left.ensures)
+    let s = c.loop-u.invariant in
+    sift_passes _ s (pass s.left_word c.next.ensures.steps c.in-Some.is) (le_below (omega arith))
 
 pub returns : goal.returns
-returns c = sift_all c.loop-u.invariant (none_left c.is_empty.ensures c.loop-u-test.false)
+returns c = sift_all c.loop-u.invariant c.in-None.ensures.steps.0

@@ -6,7 +6,4 @@ use Rattle.turns.proofs.Sift.{Sifting}
 use Rattle.turns.proofs.lower.Given as goal
 
 abbrev pub invariant-loop-u : goal.invariant-loop-u
-invariant-loop-u l = Sifting (λ a. below (get_or l.labels a 0) l.x) (members l.w) (members l.found) (members l.left)
-
-abbrev pub decreases-loop-u : goal.decreases-loop-u
-decreases-loop-u l = members l.left
+invariant-loop-u l = Sifting (λ a. below (get_or l.labels a 0) l.x) (members l.w) (members l.found) (members l.u-iterator.left)

@@ -1,29 +1,27 @@
--- `turns::prohibited` meets its contract. The invariant: the sum of u(u-1)/2 over the nodes passed, u being the number of neighbours with higher labels.
-use mathlib.Core.Path.{sym, ◌∙◌}
-use native.Mathlib.Omega.{arith}
+-- `turns::prohibited` meets its contract: at each node its rising hops are counted.
+use mathlib.Core.Path.{◌≡◌, sym, ◌∙◌}
+use mathlib.Core.Bool.{Bool}
+use Prim.Native.Nat.{ℕ}
+use Rattle.std.proofs.Common.{rules}
+use lib.ListN.{get_or}
+use Rattle.finite.specs.Sum.{count}
+use Rattle.finite.proofs.Sum.{count-bound}
+use Rattle.lawful.specs.Turn.{rises}
 use Rattle.nodes.specs.Limits.{max_nodes}
-use Rattle.turns.proofs.Turns.{prohibited-rising}
-use Rattle.turns.proofs.Adding.{adding_none, adding_few, adding_more, adding_all, size_of}
+use Rattle.network.specs.Table.{edge_of}
+use Rattle.turns.proofs.Adding.{size_of}
+use Rattle.turns.proofs.Turns.{prohibited_formula}
 use Rattle.turns.proofs.prohibited.Goals as goal
 
-pub loop-a-init : goal.loop-a-init
-loop-a-init c = (adding_none _, omega arith)
-
-pub choose_two-sum-requires : goal.choose_two-sum-requires
-choose_two-sum-requires c = adding_few c.loop-a.invariant.0 (size_of _ c.rising.ensures c.size.ensures)
-
-pub overflow_add-sum : goal.overflow_add-sum
-overflow_add-sum c = omega (arith, (adding_more c.loop-a.invariant.0 (size_of _ c.rising.ensures c.size.ensures) c.choose_two-sum.ensures).bound)
-
-pub overflow_step-a : goal.overflow_step-a
-overflow_step-a c = omega arith
-
-pub loop-a-smaller : goal.loop-a-smaller
-loop-a-smaller c = omega arith
-
-pub loop-a-preserved : goal.loop-a-preserved
-loop-a-preserved c =
-    (adding_more c.loop-a.invariant.0 (size_of _ c.rising.ensures c.size.ensures) c.choose_two-sum.ensures, omega arith)
+pub turns_at-requires-clause-few : goal.turns_at-requires-clause-few
+turns_at-requires-clause-few c = λ v d p.
+    let links : ℕ → Bool = rises (edge_of c.args.t.now) (λ u. get_or c.args.labels.now u 0) v in
+    let e : d ≡ count max_nodes links = search (rules, size_of links) in
+    rw e (count-bound max_nodes links)
 
 pub returns : goal.returns
-returns c = adding_all c.loop-a.invariant.0 (omega arith) ∙ sym (prohibited-rising max_nodes _ _)
+returns c =
+    let a = c.args in
+    let rising : ℕ → ℕ → Bool = rises (edge_of a.t.now) (λ u. get_or a.labels.now u 0) in
+    c.turns_at.ensures (λ v. count max_nodes (rising v)) (λ v d p. search (rules, size_of (rising v)))
+    ∙ sym (prohibited_formula max_nodes (edge_of a.t.now) (λ u. get_or a.labels.now u 0))

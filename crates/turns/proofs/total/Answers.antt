@@ -1,25 +1,17 @@
--- `turns::total` meets its contract. The invariant: the sum of d(d-1)/2 over the nodes passed.
-use native.Mathlib.Omega.{arith}
-use Rattle.turns.proofs.Adding.{adding_none, adding_few, adding_more, adding_all}
+-- `turns::total` meets its contract: at each node its degree is counted.
+use mathlib.Core.Path.{◌≡◌, sym, ◌∙◌}
+use Rattle.std.proofs.Common.{rules}
+use Rattle.finite.specs.Sum.{count}
+use Rattle.finite.proofs.Sum.{count-bound}
+use Rattle.nodes.specs.Limits.{max_nodes}
+use Rattle.network.specs.Table.{edge_of}
+use Rattle.turns.proofs.Turns.{total_formula}
 use Rattle.turns.proofs.total.Goals as goal
 
-pub loop-v-init : goal.loop-v-init
-loop-v-init c = (adding_none _, omega arith)
-
-pub choose_two-sum-requires : goal.choose_two-sum-requires
-choose_two-sum-requires c = adding_few c.loop-v.invariant.0 c.degree.ensures
-
-pub overflow_add-sum : goal.overflow_add-sum
-overflow_add-sum c = omega (arith, (adding_more c.loop-v.invariant.0 c.degree.ensures c.choose_two-sum.ensures).bound)
-
-pub overflow_step-v : goal.overflow_step-v
-overflow_step-v c = omega arith
-
-pub loop-v-smaller : goal.loop-v-smaller
-loop-v-smaller c = omega arith
-
-pub loop-v-preserved : goal.loop-v-preserved
-loop-v-preserved c = (adding_more c.loop-v.invariant.0 c.degree.ensures c.choose_two-sum.ensures, omega arith)
+pub turns_at-requires-clause-few : goal.turns_at-requires-clause-few
+turns_at-requires-clause-few c = λ v d p.
+    let e : d ≡ count max_nodes (edge_of c.args.t.now v) = search rules in
+    rw e (count-bound max_nodes (edge_of c.args.t.now v))
 
 pub returns : goal.returns
-returns c = adding_all c.loop-v.invariant.0 (omega arith)
+returns c = c.turns_at.ensures (λ v. count max_nodes (edge_of c.args.t.now v)) (λ v d p. search rules) ∙ sym (total_formula max_nodes (edge_of c.args.t.now))
