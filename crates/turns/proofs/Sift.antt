@@ -1,12 +1,11 @@
 -- The loop over the members of a word that finds those that pass a test: what is found, and what is left and passes, is all of the word that passes.
 use mathlib.Core.Path.{◌≡◌, refl, sym, ◌∙◌, ap}
 use mathlib.Core.Bool.{Bool, true, false}
-use Prim.Native.Nat.{ℕ, ◌+◌, ◌^◌, ◌<◌}
-use native.Mathlib.Omega.{arith}
+use Prim.Native.Nat.{ℕ, ◌^◌, ◌<◌}
 use lib.Dec.{lit<}
-use Rattle.finite.specs.Truth.{◌&◌, ◌or◌, non, same, below}
+use Rattle.finite.specs.Truth.{◌&◌, ◌or◌, same}
 use Rattle.finite.specs.Sets.{has, set_of}
-use Rattle.finite.proofs.Truth.{iff, bcase, and_false, or_false, non-true, true-non, same-eq, same-ne, below-lt, below-le, lt-below, le_below, false_or}
+use Rattle.finite.proofs.Truth.{bcase, and_false, or_false, same-eq, same-ne, false_or}
 use Rattle.finite.proofs.Sets.{has_0, has-set_of, set_ext}
 use Rattle.nodes.specs.Limits.{max_nodes}
 use Rattle.nodes.proofs.Words.{word_lt}
@@ -59,10 +58,3 @@ module _ (p : ℕ → Bool) {w found left u next : ℕ} (s : Sifting p w found l
 
 pub sift_all : {p : ℕ → Bool} {w found left : ℕ} → Sifting p w found left → left ≡ 0 → found ≡ set_of max_nodes (λ a. has w a & p a)
 sift_all {p} s z = set_ext max_nodes _ _ s.found_word (λ a l. simp (z, has_0, and_false, false_or) at (s.parts a l))
-
--- a label that is not below x + 1 is above x
-pub not_lower : (h : Bool) (m x : ℕ) → h & non (h & below m (x + 1)) ≡ h & below x m
-unfolding ◌&◌
-not_lower false m x = refl
-not_lower true m x =
-    iff _ _ (λ t. let l = below-le _ _ (non-true _ t) in lt-below (omega arith)) (λ t. let l = below-lt _ _ t in true-non (le_below (omega arith)))

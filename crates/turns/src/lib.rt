@@ -1,8 +1,8 @@
 // Labels on a network: the neighbours that a hop rises or falls to, the total of turns, and how many of them are prohibited.
 #![tactic(auto)]
 
-ghost use Rattle.std.specs.Prelude.{◌≡◌, ℕ, ◌-◌, ◌*◌, ◌/◌, ◌≤◌, get_or};
-ghost use Rattle.finite.specs.Truth.{◌&◌, below};
+ghost use Rattle.std.specs.Prelude.{◌≡◌, Bool, ℕ, ◌-◌, ◌*◌, ◌/◌, ◌≤◌, get_or};
+ghost use Rattle.finite.specs.Truth.{◌&◌};
 ghost use Rattle.finite.specs.Sum.{sum_to};
 ghost use Rattle.finite.specs.Sets.{has, set_of};
 ghost use Rattle.lawful.specs.Turn.{rises, falls};
@@ -13,13 +13,14 @@ ghost use Rattle.turns.specs.Turns.{all_turns, prohibited_turns};
 
 use nodes::{MAX_NODES, Set};
 
-// The members of w whose label is below x.
-fn lower(labels: &[u8], w: Set, x: usize) -> Set
-    ensures { members result ≡ set_of max_nodes (λ a. has (members w) a & below (get_or labels.now a 0) x) }
+// The members of w that pass the test.
+fn those<F: Fn(usize) -> bool>(w: Set, passes: F) -> Set
+    requires { F.IsAlwaysCallable passes }
+    ensures { (test : ℕ → Bool) → ((u : ℕ) (b : Bool) → F.post passes u b → b ≡ test u) → members result ≡ set_of max_nodes (λ a. has (members w) a & test a) }
 {
     let mut found = nodes::none();
     for u in nodes::each(w) {
-        if usize::from(slices::byte(labels, u)) < x {
+        if passes(u) {
             found = nodes::with(found, u);
         }
     }
@@ -30,10 +31,9 @@ fn lower(labels: &[u8], w: Set, x: usize) -> Set
 pub fn rising(t: &[u64], labels: &[u8], v: usize) -> Set
     ensures { members result ≡ set_of max_nodes (rises (edge_of t.now) (λ u. get_or labels.now u 0) v) }
 {
-    let w = network::neighbours(t, v);
-    nodes::difference(
-        w,
-        lower(labels, w, usize::from(slices::byte(labels, v)) + 1),
+    those(
+        network::neighbours(t, v),
+        |u| slices::byte(labels, v) < slices::byte(labels, u),
     )
 }
 
@@ -41,10 +41,9 @@ pub fn rising(t: &[u64], labels: &[u8], v: usize) -> Set
 pub fn falling(t: &[u64], labels: &[u8], v: usize) -> Set
     ensures { members result ≡ set_of max_nodes (falls (edge_of t.now) (λ u. get_or labels.now u 0) v) }
 {
-    lower(
-        labels,
+    those(
         network::neighbours(t, v),
-        usize::from(slices::byte(labels, v)),
+        |u| slices::byte(labels, u) < slices::byte(labels, v),
     )
 }
 

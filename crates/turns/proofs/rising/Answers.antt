@@ -1,13 +1,19 @@
--- `turns::rising` meets its contract: the members of v's neighbour word whose label is not below v's label plus one.
-use Rattle.finite.proofs.Sets.{has-set_of, set_of_cong}
+-- `turns::rising` meets its contract: the neighbours of v whose label is above v's.
+use mathlib.Core.Path.{◌∙◌, ap}
+use mathlib.Core.Bool.{Bool}
+use Prim.Native.Nat.{ℕ}
+use Rattle.std.proofs.Common.{rules}
+use lib.ListN.{get_or}
+use Rattle.finite.specs.Truth.{◌&◌, below}
+use Rattle.finite.specs.Sets.{has, set_of}
 use Rattle.lawful.specs.Turn.{rises}
 use Rattle.nodes.specs.Limits.{max_nodes}
 use Rattle.network.specs.Table.{edge_of}
-use Rattle.turns.proofs.Sift.{not_lower}
 use Rattle.turns.proofs.rising.Goals as goal
 
 pub returns : goal.returns
-unfolding rises edge_of
+unfolding rises edge_of below
 returns c =
-    rw (c.difference.ensures, c.lower.ensures, c.from.ensures, c.byte.ensures, c.neighbours-w.ensures)
-    (set_of_cong max_nodes _ _ (λ u l. simp (has-set_of max_nodes) (not_lower _ _ _)))
+    let a = c.args in
+    let test : ℕ → Bool = λ u. below (get_or a.labels.now a.v 0) (get_or a.labels.now u 0) in
+    c.those.ensures test (λ u b p. search rules) ∙ ap (λ (w : ℕ). set_of max_nodes (λ u. has w u & test u)) c.neighbours.ensures
