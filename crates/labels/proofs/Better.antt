@@ -4,6 +4,8 @@ use mathlib.Core.Bool.{Bool, true, false}
 use mathlib.Core.Logic.{◌⊎◌, inl, inr, ⊎_elim}
 use Prim.Native.Nat.{ℕ, ◌^◌, ◌≤◌, ◌<◌}
 use native.Mathlib.Omega.{arith}
+use lib.Dec.{leb}
+use borrow.Author.Tests.{leb-true, leb-false}
 use Rattle.finite.specs.Truth.{◌&◌, same, below}
 use Rattle.finite.specs.Search.{least, least_by}
 use Rattle.finite.specs.Sets.{has, set_of, without}
@@ -11,6 +13,7 @@ use Rattle.finite.proofs.Truth.{no_tf, bcase, refute, both, and_l, and_r, true-n
 use Rattle.finite.proofs.Search.{least-found, least_by-least, least_by-none, least-by_unique}
 use Rattle.finite.proofs.Sets.{has_0, has-lt, has-set_of, without_in, without-ne, in_without, set_of_in}
 use Rattle.nodes.proofs.Words.{lowest_in, word_lt}
+use Rattle.std.specs.Prelude.{Option, Some, None, MatchOption, ⊤}
 use Rattle.graph.specs.Reach.{splits}
 use Rattle.labels.specs.declared.Best.{Best}
 use Rattle.labels.specs.Links.{room_by, candidate_by}
@@ -18,24 +21,68 @@ use Rattle.labels.specs.Search.{better}
 
 -- ---- one node
 
-module _ (f : ℕ → ℕ) (p : ℕ → Bool) (v : ℕ) (best : Best) where
-  better-stays : below (f v) best.degree & p v ≡ false → best ≡ better f p v best
-  unfolding better
-  better-stays h = rw (h, better)
-
-  better-takes : below (f v) best.degree & p v ≡ true → record { degree = f v; node = v } ≡ better f p v best
-  unfolding better
-  better-takes h = rw (h, better)
-
+module _ (f : ℕ → ℕ) (p : ℕ → Bool) (v : ℕ) where
   -- no lower degree; no candidate
-  pub not_lower : best.degree ≤ f v → best ≡ better f p v best
-  not_lower l = better-stays (refute _ (λ t. no_tf (and_l _ _ t) (le_below l)))
+  not_lower : (best : Best) → best.degree ≤ f v → Some best ≡ better f p v (Some best)
+  unfolding better
+  not_lower best l = rw (refute (below (f v) best.degree & p v) (λ t. no_tf (and_l _ _ t) (le_below l)), better)
 
-  pub not_passing : p v ≡ false → best ≡ better f p v best
-  not_passing e = better-stays (refute _ (λ t. no_tf (and_r _ _ t) e))
+  taken : (best : Option Best) → MatchOption best ⊤ (λ b. f v < b.degree) → p v ≡ true → Some (record { degree = f v; node = v }) ≡ better f p v best
+  unfolding better
+  taken None l e = rw (e, better)
+  taken (Some best) l e = rw (both (lt-below l) e, better)
 
-  pub taken : f v < best.degree → p v ≡ true → record { degree = f v; node = v } ≡ better f p v best
-  taken l e = better-takes (both (lt-below l) e)
+  -- r is what the code asks of the best so far: is there one, and is its degree no higher?
+  pub no_lower : (best : Option Best) {P : Best → Type 0} (d : ℕ) {r : Bool} → MatchOption best (r ≡ false) P → ((b : Best) → P b → r ≡ leb b.degree d)
+      → d ≡ f v → r ≡ true → best ≡ better f p v best
+  no_lower None d q h e t = no_tf t q
+  no_lower (Some best) d q h e t = let l = leb-true _ _ (sym (h best q) ∙ t) in not_lower best (omega arith)
+
+  pub has_lower : (best : Option Best) {P : Best → Type 0} (d : ℕ) {r : Bool} → MatchOption best (r ≡ false) P → ((b : Best) → P b → r ≡ leb b.degree d)
+      → d ≡ f v → r ≡ false → p v ≡ true → Some (record { degree = f v; node = v }) ≡ better f p v best
+  has_lower None d q h e t = taken None tt
+  has_lower (Some best) d q h e t = let l = leb-false _ _ (sym (h best q) ∙ t) in taken (Some best) (omega arith)
+
+  pub not_passing : (best : Option Best) → p v ≡ false → best ≡ better f p v best
+  unfolding better
+  not_passing None e = rw (e, better)
+  not_passing (Some best) e = rw (refute (below (f v) best.degree & p v) (λ t. no_tf (and_r _ _ t) e), better)
+
+-- the best so far as two numbers: where there is none, both are higher than any node's
+unfoldable pub known : (b n : ℕ) → Option Best → Best
+known b n None = record { degree = b; node = n }
+known b n (Some best) = best
+
+module _ (f : ℕ → ℕ) (p : ℕ → Bool) (v : ℕ) (best : Best) where
+  pub lower : Best
+  lower = elim (below (f v) best.degree & p v) [ true ↦ record { degree = f v; node = v } | false ↦ best ]
+
+  lower-stays : below (f v) best.degree & p v ≡ false → best ≡ lower
+  unfolding lower
+  lower-stays h = rw (h, lower)
+
+  lower-takes : below (f v) best.degree & p v ≡ true → record { degree = f v; node = v } ≡ lower
+  unfolding lower
+  lower-takes h = rw (h, lower)
+
+pub known-better : (b n : ℕ) (f : ℕ → ℕ) (p : ℕ → Bool) (v : ℕ) → f v < b → (best : Option Best) → known b n (better f p v best) ≡ lower f p v (known b n best)
+unfolding better lower known
+known-better b n f p v l None =
+    let none = known b n None in
+    bcase (p v) (λ h. ap (known b n) (sym (taken f p v None tt h)) ∙ lower-takes f p v none (both (lt-below l) h))
+    (λ h. ap (known b n) (sym (not_passing f p v None h)) ∙ lower-stays f p v none (refute _ (λ t. no_tf (and_r _ _ t) h)))
+known-better b n f p v l (Some best) = each (below (f v) best.degree & p v)
+  where
+    each : (t : Bool) → known b n (elim t [ true ↦ Some (record { degree = f v; node = v }) | false ↦ Some best ])
+        ≡ elim t [ true ↦ record { degree = f v; node = v } | false ↦ best ]
+    each true = refl
+    each false = refl
+
+pub known-node : (b n : ℕ) (best : Option Best) {P : Best → Type 0} {r : ℕ} → MatchOption best (r ≡ n) P → ((x : Best) → P x → r ≡ x.node)
+    → r ≡ (known b n best).node
+unfolding known
+known-node b n None q h = q
+known-node b n (Some best) q h = h best q
 
 -- why a node is no candidate, and why it is one
 module _ (n : ℕ) (links : ℕ → ℕ → Bool) (R : ℕ → Bool) (v : ℕ) where
@@ -120,13 +167,13 @@ module _ (n b : ℕ) (f : ℕ → ℕ) (p : ℕ → Bool) (low : (v : ℕ) → f
             let m = x v here in
             bcase (below best.degree (f u)) (λ t. inl (below-lt _ _ t)) (λ t. let o = below-le _ _ t in inr (omega arith, omega arith))
 
-    pub searching_more : {next : Best} → next ≡ better f p v best → Searching n b f p rest next
+    pub searching_more : {next : Best} → next ≡ lower f p v best → Searching n b f p rest next
     searching_more {next} g =
         subst⁻¹ (Searching n b f p rest) g
         (bcase (below (f v) best.degree & p v)
-        (λ t. subst (Searching n b f p rest) (better-takes f p v best t) (takes (below-lt _ _ (and_l _ _ t)) (and_r _ _ t)))
+        (λ t. subst (Searching n b f p rest) (lower-takes f p v best t) (takes (below-lt _ _ (and_l _ _ t)) (and_r _ _ t)))
         (λ t.
-        subst (Searching n b f p rest) (better-stays f p v best t)
+        subst (Searching n b f p rest) (lower-stays f p v best t)
         (stays (λ q. bcase (below (f v) best.degree) (λ x. no_tf (both x q) t) (λ x. below-le _ _ x)))))
 
   pub searching_all : {left : ℕ} {best : Best} → Searching n b f p left best → left ≡ 0 → best.node ≡ least_by b n f p

@@ -5,10 +5,11 @@ use mathlib.Core.List.{List}
 use Prim.Native.Nat.{ℕ, suc, ◌+◌, ◌≤◌}
 use native.Mathlib.Numerals.{add-one}
 use native.Mathlib.Omega.{arith}
-use lib.ListN.{length, replicate, length-replicate}
+use lib.ListN.{length, set, replicate, length-replicate}
+use lib.Seq.{set_out}
 use Rattle.finite.specs.Truth.{below}
 use Rattle.finite.specs.Sets.{has, set_of, without}
-use Rattle.finite.proofs.Truth.{below-lt}
+use Rattle.finite.proofs.Truth.{bcase, below-lt, below-le}
 use Rattle.graph.specs.Network.{Members, among}
 use Rattle.nodes.specs.Limits.{max_nodes}
 use Rattle.nodes.proofs.Words.{has_all}
@@ -28,6 +29,14 @@ pub record Giving (t : List ℕ) (m k w : ℕ) (rest out : List ℕ) : Type 0 wh
 
 word-has : (R : ℕ → Bool) {w : ℕ} → Members max_nodes R → w ≡ set_of max_nodes R → has w ≡ R
 word-has R m e = fun_ext (λ v. ap (λ (x : ℕ). has x v) e ∙ has_all max_nodes R m v)
+
+-- a label put at a place is given, as past the last node there is no place
+pub put-give : (out : List ℕ) (v k : ℕ) {new : List ℕ} → length out ≡ max_nodes → new ≡ set out v k → new ≡ give max_nodes v k out
+unfolding give
+put-give out v k e f =
+    f
+    ∙ bcase (below v max_nodes) (λ h. rw (h, give) refl)
+    (λ h. rw (h, give) (set_out out v k (let l = below-le _ _ h in omega arith)))
 
 pub giving_none : (t : List ℕ) (m : ℕ) {w : ℕ} {rest : List ℕ} → m ≤ max_nodes → w ≡ set_of max_nodes (λ v. below v m)
     → rest ≡ remaining (has w) (edge_of t) → Giving t m 0 w rest (replicate max_nodes 0)

@@ -8,13 +8,11 @@ use Rattle.nodes.specs.Limits.{max_nodes}
 use Rattle.nodes.specs.Members.{members}
 use Rattle.network.specs.Table.{edge_of}
 use Rattle.labels.specs.Links.{candidate_by}
-use Rattle.labels.proofs.Better.{Searching}
+use Rattle.labels.proofs.Better.{Searching, known}
 use Rattle.labels.proofs.choice.Given as goal
 
 abbrev pub invariant-loop-v : goal.invariant-loop-v
 invariant-loop-v l =
-    Searching max_nodes (suc max_nodes) (λ u. count max_nodes (edge_of l.t u)) (candidate_by max_nodes (edge_of l.t) (has (members l.w))) (members l.left) l.best
-    × ((u : ℕ) → has (members l.left) u ≡ true → has (members l.w) u ≡ true)
-
-abbrev pub decreases-loop-v : goal.decreases-loop-v
-decreases-loop-v l = members l.left
+    Searching max_nodes (suc max_nodes) (λ u. count max_nodes (edge_of l.t u)) (candidate_by max_nodes (edge_of l.t) (has (members l.w))) (members l.v-iterator.left)
+    (known (suc max_nodes) max_nodes l.best)
+    × ((u : ℕ) → has (members l.v-iterator.left) u ≡ true → has (members l.w) u ≡ true)

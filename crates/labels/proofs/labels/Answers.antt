@@ -8,7 +8,7 @@ use Rattle.nodes.specs.Limits.{max_nodes}
 use Rattle.network.specs.Table.{edge_of}
 use Rattle.network.proofs.Table.{table_from-length}
 use Rattle.rule.specs.Labels.{labelled, labels_of}
-use Rattle.labels.proofs.Giving.{giving_none, giving_more}
+use Rattle.labels.proofs.Giving.{giving_none, giving_more, put-give}
 use Rattle.labels.proofs.labels.Goals as goal
 
 pub loop-k-init : goal.loop-k-init
@@ -16,17 +16,11 @@ loop-k-init c =
     let m = c.capped-m.ensures in
     (giving_none _ _ (le_trans (le_of_eq m) (min-le_right _ max_nodes)) c.first-w.ensures c.restrict-rest.ensures, m, omega arith)
 
-pub slice_bounds-give-end : goal.slice_bounds-give-end
-slice_bounds-give-end c = omega arith
-
 pub overflow_add-k : goal.overflow_add-k
 overflow_add-k c = omega arith
 
 pub overflow_cast-k : goal.overflow_cast-k
 overflow_cast-k c = omega arith
-
-pub give-requires : goal.give-requires
-give-requires c = omega arith
 
 pub slice_bounds-strike-end : goal.slice_bounds-strike-end
 slice_bounds-strike-end c = sym (ap length c.loop-k.invariant.0.table ∙ table_from-length _)
@@ -40,7 +34,7 @@ loop-k-smaller c = omega arith
 pub loop-k-preserved : goal.loop-k-preserved
 loop-k-preserved c =
     let inv = c.loop-k.invariant in (
-      giving_more _ _ _ _ _ _ (le_trans (le_of_eq inv.1) (min-le_right _ max_nodes)) inv.0 c.choice-v.ensures c.give.ensures c.strike.ensures
+      giving_more _ _ _ _ _ _ (le_trans (le_of_eq inv.1) (min-le_right _ max_nodes)) inv.0 c.choice-v.ensures (put-give _ _ _ inv.0.size c.put.ensures) c.strike.ensures
           c.without-w.ensures,
       inv.1,
       omega arith,

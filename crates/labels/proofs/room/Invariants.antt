@@ -13,7 +13,4 @@ abbrev pub around : List ℕ → ℕ → ℕ
 around t u = count max_nodes (edge_of t u) - 1
 
 abbrev pub invariant-loop-u : goal.invariant-loop-u
-invariant-loop-u l = Summing max_nodes (around l.t) (sum_if max_nodes (edge_of l.t l.v) (around l.t)) l.sum (members l.left)
-
-abbrev pub decreases-loop-u : goal.decreases-loop-u
-decreases-loop-u l = members l.left
+invariant-loop-u l = Summing max_nodes (around l.t) (sum_if max_nodes (edge_of l.t l.v) (around l.t)) l.sum (members l.u-iterator.left)
