@@ -81,11 +81,9 @@ fn enter(from: &mut [u64], v: usize, set: Set)
     requires { length from.old ≡ max_nodes }
     ensures { from.new ≡ entered_of v (members set) from.old }
 {
-    let mut left = set;
-    while !nodes::is_empty(left) {
-        let u = nodes::lowest(left);
-        left = nodes::rest(left);
-        from[u] = nodes::with(network::neighbours(from, u), v);
+    for u in nodes::each(set) {
+        let row = nodes::with(network::neighbours(from, u), v);
+        slices::put(from, u, row);
     }
 }
 
@@ -105,10 +103,7 @@ fn touching(from: &[u64], set: Set) -> Set
     ensures { members result ≡ set_of max_nodes (touches from.now (members set)) }
 {
     let mut all = nodes::none();
-    let mut left = set;
-    while !nodes::is_empty(left) {
-        let u = nodes::lowest(left);
-        left = nodes::rest(left);
+    for u in nodes::each(set) {
         all = nodes::union(all, network::neighbours(from, u));
     }
     all
@@ -121,10 +116,7 @@ fn half(up: &[u64], down: &[u64], worth: Set, free: Set, falling: Set, side: Sid
 {
     let mut joined = side.members;
     let mut entries = side.entries;
-    let mut left = nodes::difference(worth, side.members);
-    while !nodes::is_empty(left) {
-        let v = nodes::lowest(left);
-        left = nodes::rest(left);
+    for v in nodes::each(nodes::difference(worth, side.members)) {
         let u = lead(
             network::neighbours(up, v),
             network::neighbours(down, v),

@@ -4,7 +4,4 @@ use Rattle.rows.proofs.Into.{Entering}
 use Rattle.rows.proofs.enter.Given as goal
 
 abbrev pub invariant-loop-u : goal.invariant-loop-u
-invariant-loop-u l = Entering l.v (members l.set) l.initial.from l.from (members l.left)
-
-abbrev pub decreases-loop-u : goal.decreases-loop-u
-decreases-loop-u l = members l.left
+invariant-loop-u l = Entering l.v (members l.set) l.initial.from l.from (members l.u-iterator.left)

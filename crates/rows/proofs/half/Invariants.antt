@@ -6,7 +6,5 @@ use Rattle.rows.proofs.half.Given as goal
 
 abbrev pub invariant-loop-v : goal.invariant-loop-v
 invariant-loop-v l =
-    Halving (lead_of l.up l.down (members l.free) (members l.falling)) (members l.initial.joined) l.initial.entries (members l.joined) l.entries (members l.left)
-
-abbrev pub decreases-loop-v : goal.decreases-loop-v
-decreases-loop-v l = members l.left
+    Halving (lead_of l.up l.down (members l.free) (members l.falling)) (members l.initial.joined) l.initial.entries (members l.joined) l.entries
+    (members l.v-iterator.left)

@@ -4,7 +4,4 @@ use Rattle.rows.proofs.Touched.{Touching}
 use Rattle.rows.proofs.touching.Given as goal
 
 abbrev pub invariant-loop-u : goal.invariant-loop-u
-invariant-loop-u l = Touching l.from (members l.set) (members l.all) (members l.left)
-
-abbrev pub decreases-loop-u : goal.decreases-loop-u
-decreases-loop-u l = members l.left
+invariant-loop-u l = Touching l.from (members l.set) (members l.all) (members l.u-iterator.left)
