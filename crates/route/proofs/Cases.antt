@@ -1,5 +1,5 @@
 -- The checks of the route call, case by case.
-use Rattle.std.specs.Prelude.{Err, Ok}
+use Rattle.std.specs.Prelude.{Result, Err, Ok}
 use Rattle.refusal.specs.Verdicts.{Verdict}
 use mathlib.Core.Path.{◌≡◌, refl, sym, ◌∙◌}
 use mathlib.Core.Bool.{Bool, true, false}
@@ -10,12 +10,12 @@ use native.Mathlib.Omega.{arith}
 use Rattle.finite.specs.Truth.{◌&◌, below}
 use Rattle.finite.proofs.Truth.{no_tf, refute, both, and_l, and_r, lt-below, le_below}
 use Rattle.nodes.specs.Limits.{max_nodes}
+use Rattle.refusal.specs.declared.Refusal.{Refusal}
 use Rattle.refusal.specs.declared.Refusal.TheVariants.{Short, Unknown}
 use Rattle.refusal.proofs.Verdicts.{then-fine, then-fault}
 use Rattle.fabric.specs.declared.Fabric.{Fabric}
-use Rattle.fabric.specs.declared.Made.{Made}
 use Rattle.fabric.specs.Fabric.{made_by}
-use Rattle.fabric.proofs.Making.{made-verdict, made-fabric}
+use Rattle.fabric.proofs.Making.{fine-made}
 use Rattle.fabric.proofs.Parts.{fabric-nodes}
 use Rattle.format.specs.Contents.{nodes_in}
 use Rattle.image.specs.Image.{cabling_in}
@@ -58,10 +58,9 @@ pub record Opened (b : List ℕ) (f : Fabric) : Type 0 where
   pub few : f.nodes ≤ max_nodes
   pub leads : (s t : ℕ) → s < f.nodes → t < f.nodes → followed f s t ≡ route_bytes b s t
 
-pub opened : (b : List ℕ) {m : Made} → m ≡ made_by (image_fault b) (cabling_in b) → m.verdict ≡ Ok tt → Opened b m.fabric
+pub opened : (b : List ℕ) {m : Result Fabric Refusal} {f : Fabric} → m ≡ made_by (image_fault b) (cabling_in b) → m ≡ Ok f → Opened b f
 opened b e h =
-    let fine = sym (made-verdict _ e) ∙ h in
-    let is = made-fabric _ e fine in
+    let (fine, is) = fine-made _ e h in
     let nodes = fabric-nodes _ is in
     let g = accepted-good b fine in
     let few = g.few in

@@ -49,11 +49,6 @@ module _ (f : Fabric) (s t : ℕ) where
   unfolding followed
   following_none b = record { done = []; lays = lays-none b; size = refl; rest = rw (sub-zero, add-one) }
 
-  -- after the last hop none is to come
-  pub following_all : {b : List ℕ} {q : Page} {v class k : ℕ} → Following b q v class k → f.nodes + f.nodes < k → Lays b q (followed f s t)
-  following_all {k = k} w l =
-      let z : f.nodes + f.nodes + 1 - k ≡ 0 = omega arith in lays_as w.lays (sym (append-nil w.done) ∙ rw z at w.rest)
-
   module _ {b : List ℕ} {q r : Page} {v class k : ℕ} (w : Following b q v class k) (l : k < f.nodes + f.nodes + 1) (room : f.nodes + f.nodes < length b)
       (e : r ≡ behind q (v ∷ [])) where
     abbrev with : List ℕ

@@ -1,48 +1,40 @@
 -- `route::route` meets its contract: the image, the two nodes, and then the route, placed.
-use mathlib.Core.Path.{sym, ◌∙◌}
-use mathlib.Core.Logic.{inl, inr}
-use native.Mathlib.Omega.{arith}
-use lib.ListN.{length-take}
+use Rattle.std.proofs.Common.{◌≡◌, Err, inl, inr, ◌∙◌, rules, arith}
+use mathlib.Core.Logic.{⊎_elim}
 use Rattle.refusal.proofs.Verdicts.{then-fault}
 use Rattle.results.proofs.Placed.{fault-writes, fine-writes}
-use Rattle.fabric.proofs.Making.{made-verdict}
+use Rattle.fabric.proofs.Making.{fault-made}
 use Rattle.laid.proofs.Pieces.{lays-front}
 use Rattle.route.proofs.Cases.{ends-refused, not-refused, Opened, opened}
 use Rattle.route.proofs.route.Goals as goal
-use Rattle.route.proofs.route.Goals.{In_default}
+use Rattle.route.proofs.route.Goals.{In_ok-f}
 
 -- the image was found fine
-image-fine : (c : In_default)
-    → Opened c.args.image.now c.open-opened.result.fabric
-image-fine c = opened _ c.open-opened.ensures c.in_default.is
+image-fine : (c : In_ok-f) → Opened c.args.image.now c.in_ok-f.f
+image-fine c = opened _ c.open.ensures c.in_ok-f.was
 
-pub returns-in-Err : goal.returns-in-Err
-returns-in-Err c =
-    fault-writes (then-fault _ (sym (made-verdict _ c.open-opened.ensures) ∙ c.in-Err.is))
+pub returns-in_err-f : goal.returns-in_err-f
+returns-in_err-f c =
+    let r : c.from_residual.result ≡ Err c.in_err-f.field-0.0 = search rules in
+    rw r (fault-writes (then-fault _ (fault-made _ c.open.ensures c.in_err-f.was)))
 
 pub returns-then-f-source : goal.returns-then-f-source
-returns-then-f-source c = let o = image-fine (goal.at.returns-then-f-source c).In_default in fault-writes (ends-refused _ _ _ o.fine (inl (omega arith)))
-
-pub returns-then-f-destination : goal.returns-then-f-destination
-returns-then-f-destination c = let o = image-fine (goal.at.returns-then-f-destination c).In_default in fault-writes (ends-refused _ _ _ o.fine (inr (omega arith)))
+returns-then-f-source c =
+    let o = image-fine (goal.at.returns-then-f-source c).In_ok-f in
+    fault-writes (ends-refused _ _ _ o.fine (⊎_elim (λ h. inl (omega arith)) (λ h. inr (omega arith)) c.then-f-source.either))
 
 pub overflow_cast-source : goal.overflow_cast-source
-overflow_cast-source c = let o = image-fine (goal.at.overflow_cast-source c).In_default in omega arith
+overflow_cast-source c = let o = image-fine (goal.at.overflow_cast-source c).In_ok-f in omega arith
 
 pub overflow_cast-destination : goal.overflow_cast-destination
-overflow_cast-destination c = let o = image-fine (goal.at.overflow_cast-destination c).In_default in omega arith
+overflow_cast-destination c = let o = image-fine (goal.at.overflow_cast-destination c).In_ok-f in omega arith
 
-pub followed-len-requires : goal.followed-len-requires
-followed-len-requires c = let o = image-fine (goal.at.followed-len-requires c).In_default in omega arith
-
-pub slice_bounds-nodes-end : goal.slice_bounds-nodes-end
-slice_bounds-nodes-end c = (lays-front c.followed-len.ensures).1
-
-pub slice_bounds-place-end : goal.slice_bounds-place-end
-slice_bounds-place-end c = let h = (lays-front c.followed-len.ensures).1 in simp length-take (omega arith)
+pub followed-requires : goal.followed-requires
+followed-requires c = (image-fine (goal.at.followed-requires c).In_ok-f).few
 
 pub returns : goal.returns
 returns c =
-    let o = image-fine (goal.at.returns c).In_default in
+    let o = image-fine (goal.at.returns c).In_ok-f in
+    let l = lays-front (c.followed.ensures.laid _ c.new-out.ensures.blank (omega arith)) in
     fine-writes (not-refused _ _ _ o.fine (omega arith) (omega arith))
-    ((lays-front c.followed-len.ensures).0 ∙ o.leads _ _ c.if-f-source.false c.if-f-destination.false) c.place.ensures
+    (c.laid.ensures ∙ l.0 ∙ o.leads _ _ c.if-f-source.false c.if-f-destination.false) c.place.ensures
