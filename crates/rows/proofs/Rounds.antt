@@ -22,7 +22,8 @@ use Rattle.lawful.specs.Turn.{rises, falls}
 use Rattle.lawful.specs.Entry.{Layer, leads, joining, layer, lowest_lead, none, entry}
 use Rattle.lawful.proofs.Layers.{side, layer_ext, layer-lt, layer-none, layer-more, layer-grow, layer-still, layer-rest}
 use Rattle.lawful.proofs.Entries.{entry-self, entry-joins, entry-never}
-use Rattle.rows.specs.Steps.{pick, rounds, ways_of, search_from, lead_of, half_of, round_of, side_at, search_at, OfWays, column_of}
+use Rattle.rows.specs.Steps.{pick, rounds, ways_of, search_from, lead_of, half_of, round_of, side_at, search_at, OfWays}
+use Rattle.rows.specs.declared.Ways.{Ways}
 use Rattle.rows.specs.declared.Side.{Side}
 use Rattle.rows.specs.declared.Search.{Search}
 use Rattle.rows.proofs.Joining.{side_ext}
@@ -158,34 +159,38 @@ module _ (edge : ℕ → ℕ → Bool) (label : ℕ → ℕ) where
         bcase (has (side c (at rounds)) v) (λ h. rw h)
         (λ h. rw h (sym (entry-never max_nodes edge label t rounds (layer-rest max_nodes edge label t low _ (omega arith)) c v l h))))
 
-    pub column-at : {s : Search} → s ≡ search_at edge label t rounds → record { free = s.free.entries; falling = s.falling.entries } ≡ column_of edge label t
-    unfolding column_of search_at
-    column-at e = rw e (λ i. record { free = last-entries true i; falling = last-entries false i })
+    pub free-at : {s : Search} → s ≡ search_at edge label t rounds → s.free.entries ≡ tabulate max_nodes (λ v. entry max_nodes edge label t true v)
+    unfolding search_at
+    free-at e = rw e (last-entries true)
+
+    pub falling-at : {s : Search} → s ≡ search_at edge label t rounds → s.falling.entries ≡ tabulate max_nodes (λ v. entry max_nodes edge label t false v)
+    unfolding search_at
+    falling-at e = rw e (last-entries false)
 
 -- ---- round by round
 
 -- after k rounds the members of layer k have their entries
-abbrev pub Searching : ℕ → List ℕ → List ℕ → Search → ℕ → Type 0
-Searching t up down s k = OfWays up down (λ edge label. s ≡ search_at edge label t k)
+abbrev pub Searching : ℕ → Ways → Search → ℕ → Type 0
+Searching t ways s k = OfWays ways (λ edge label. s ≡ search_at edge label t k)
 
-module _ {t : ℕ} {up down : List ℕ} (low : t < max_nodes) where
-  pub searching_none : {s : Search} → s ≡ search_from t → Searching t up down s 0
-  searching_none e edge label p q = e ∙ start-at edge label t low
+module _ {t : ℕ} {ways : Ways} (low : t < max_nodes) where
+  pub searching_none : {s : Search} → s ≡ search_from t → Searching t ways s 0
+  searching_none e edge label p = e ∙ start-at edge label t low
 
-  next-at : {s next : Search} (k : ℕ) → Searching t up down s k → next ≡ round_of up down s → Searching t up down next (suc k)
-  next-at k h e edge label p q = e ∙ rw (p, q, h edge label p q) (round-next edge label t low k)
+  next-at : {s next : Search} (k : ℕ) → Searching t ways s k → next ≡ round_of ways.up ways.down s → Searching t ways next (suc k)
+  next-at k h e edge label p = e ∙ rw (p, h edge label p) (round-next edge label t low k)
 
-  pub searching_more : {s next : Search} (k : ℕ) → Searching t up down s k → next ≡ round_of up down s → Searching t up down next (k + 1)
+  pub searching_more : {s next : Search} (k : ℕ) → Searching t ways s k → next ≡ round_of ways.up ways.down s → Searching t ways next (k + 1)
   searching_more k h e = rw add-one (next-at k h e)
 
   -- where neither class has gained a node the search has come to its end
-  pub searching_still : {s next : Search} (k : ℕ) {newFree newFalling new : ℕ} → Searching t up down s k → k ≤ rounds → next ≡ round_of up down s
+  pub searching_still : {s next : Search} (k : ℕ) {newFree newFalling new : ℕ} → Searching t ways s k → k ≤ rounds → next ≡ round_of ways.up ways.down s
       → newFree ≡ set_of max_nodes (λ v. has next.free.members v & non (has s.free.members v))
       → newFalling ≡ set_of max_nodes (λ v. has next.falling.members v & non (has s.falling.members v))
-      → new ≡ set_of max_nodes (λ v. has newFree v or has newFalling v) → new ≡ 0 → Searching t up down s rounds
-  searching_still {s} {next} k {newFree} {newFalling} h l e f g n z edge label p q =
-      let a = h edge label p q in
-      let b = next-at k h e edge label p q in
+      → new ≡ set_of max_nodes (λ v. has newFree v or has newFalling v) → new ≡ 0 → Searching t ways s rounds
+  searching_still {s} {next} k {newFree} {newFalling} h l e f g n z edge label p =
+      let a = h edge label p in
+      let b = next-at k h e edge label p in
       a ∙ still-last edge label t low k l (rw (a, b) at free) (rw (a, b) at falling)
     where
       none : (v : ℕ) → v < max_nodes → has newFree v or has newFalling v ≡ false

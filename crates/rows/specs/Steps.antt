@@ -13,17 +13,12 @@ use Rattle.lawful.specs.Entry.{Layer, layer, none, entry}
 use Rattle.rows.specs.declared.Ways.{Ways}
 use Rattle.rows.specs.declared.Side.{Side}
 use Rattle.rows.specs.declared.Search.{Search}
-use Rattle.rows.specs.declared.Column.{Column}
 use Rattle.rows.specs.Tables.{table_size}
 
 -- a where the test passes, else b
 abbrev pub pick : Bool → ℕ → ℕ → ℕ
 pick true a b = a
 pick false a b = b
-
--- for each node the neighbours that a hop rises to, and those that it falls to
-unfoldable pub ways_of : (ℕ → ℕ → Bool) → (ℕ → ℕ) → Ways
-ways_of edge label = record { up = table_from (rises edge label); down = table_from (falls edge label) }
 
 -- the destination alone, its own entry
 unfoldable pub search_from : ℕ → Search
@@ -46,6 +41,18 @@ entered_of v set from = table_from (λ u a. edge_of from u a or has set u & same
 -- the rows turned round: for each node those from which one of these hops leads to it
 unfoldable pub into_of : List ℕ → List ℕ
 into_of ways = table_from (λ u v. edge_of ways v u)
+
+-- for each node the neighbours that a hop rises to and those that it falls to, and both turned round
+unfoldable pub ways_of : (ℕ → ℕ → Bool) → (ℕ → ℕ) → Ways
+ways_of edge label =
+    let up : List ℕ = table_from (rises edge label) in
+    let down : List ℕ = table_from (falls edge label) in
+    record { up = up; down = down; over = into_of up; under = into_of down }
+
+-- what is turned round is what a hop rises and falls to
+pub record Turned (ways : Ways) : Type 0 where
+  pub over : ways.over ≡ into_of ways.up
+  pub under : ways.under ≡ into_of ways.down
 
 -- v is in the row of a node of the set
 unfoldable pub touches : List ℕ → ℕ → ℕ → Bool
@@ -93,16 +100,9 @@ search_at edge label t k =
     let s : Layer = layer max_nodes edge label t k in
     record { free = side_at edge label t true s.free; falling = side_at edge label t false s.fall }
 
--- what is so of every network whose words these are
-abbrev pub OfWays : List ℕ → List ℕ → ((ℕ → ℕ → Bool) → (ℕ → ℕ) → Type 0) → Type 0
-OfWays up down P = (edge : ℕ → ℕ → Bool) (label : ℕ → ℕ) → up ≡ (ways_of edge label).up → down ≡ (ways_of edge label).down → P edge label
-
--- the entries of all nodes for the destination t
-unfoldable pub column_of : (ℕ → ℕ → Bool) → (ℕ → ℕ) → ℕ → Column
-column_of edge label t = record {
-  free = tabulate max_nodes (λ v. entry max_nodes edge label t true v);
-  falling = tabulate max_nodes (λ v. entry max_nodes edge label t false v);
-}
+-- what is so of every network whose ways these are
+abbrev pub OfWays : Ways → ((ℕ → ℕ → Bool) → (ℕ → ℕ) → Type 0) → Type 0
+OfWays ways P = (edge : ℕ → ℕ → Bool) (label : ℕ → ℕ) → ways ≡ ways_of edge label → P edge label
 
 -- the table of m columns in which column d is this one
 unfoldable pub placed_of : ℕ → ℕ → List ℕ → List ℕ → List ℕ

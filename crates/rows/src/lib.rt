@@ -1,16 +1,16 @@
 // The two tables of next-hop rows, each column found by one search backwards from its destination.
 #![tactic(auto)]
 
-ghost use Rattle.std.specs.Prelude.{◌≡◌, ◌<◌, ◌≤◌, min, length, get_or};
-ghost use Rattle.finite.specs.Truth.{◌&◌, ◌or◌};
-ghost use Rattle.finite.specs.Search.{least};
+ghost use Rattle.std.specs.Prelude.{◌≡◌, ℕ, ◌<◌, ◌≤◌, min, length, get_or};
+ghost use Rattle.finite.specs.Lists.{tabulate};
 ghost use Rattle.finite.specs.Sets.{has, set_of};
 ghost use Rattle.nodes.specs.Limits.{max_nodes};
 ghost use Rattle.nodes.specs.Members.{members};
 ghost use Rattle.network.specs.Table.{edge_of};
 ghost use Rattle.rows.specs.Tables.{table_size, tables_of};
-ghost use Rattle.rows.specs.Steps.{ways_of, search_from, entered_of, into_of, touches, Worth, Asking, half_of, round_of, rounds, search_at, OfWays, column_of, placed_of};
+ghost use Rattle.rows.specs.Steps.{ways_of, search_from, lead_of, entered_of, into_of, touches, Worth, Asking, Turned, half_of, round_of, rounds, search_at, OfWays, placed_of};
 
+use network::Table;
 use nodes::{MAX_NODES, NONE, Set};
 
 // The bytes of a table with a row for each of 64 nodes.
@@ -19,23 +19,58 @@ pub const TABLE: usize = MAX_NODES * MAX_NODES;
 // After so many rounds of a search no node joins.
 const ROUNDS: usize = MAX_NODES + MAX_NODES;
 
-// For each node the neighbours that a hop rises to, and those that it falls to.
-#[derive(Clone, Copy)]
-struct Ways {
-    up: network::Table,
-    down: network::Table,
+// A row for each node.
+fn row_of_each<F: Fn(usize) -> Set>(row: F) -> Table
+    requires { F.IsAlwaysCallable row }
+    ensures { (set : ℕ → ℕ) → ((v w : ℕ) → F.post row v w → w ≡ set v) → result ≡ tabulate max_nodes set }
+{
+    let mut t = [0u64; MAX_NODES];
+    for (v, place) in t.iter_mut().enumerate() {
+        *place = row(v);
+    }
+    t
 }
 
-fn ways_of(t: &[u64], labels: &[u8]) -> Ways
-    ensures { result ≡ ways_of (edge_of t.now) (λ u. get_or labels.now u 0) }
+// v joins the rows of the nodes of the set.
+fn enter(from: &mut [u64], v: usize, set: Set)
+    requires { length from.old ≡ max_nodes }
+    ensures { from.new ≡ entered_of v (members set) from.old }
 {
-    let mut up = [0u64; MAX_NODES];
-    let mut down = [0u64; MAX_NODES];
-    for v in 0..MAX_NODES {
-        up[v] = turns::rising(t, labels, v);
-        down[v] = turns::falling(t, labels, v);
+    for u in nodes::each(set) {
+        let row = nodes::with(network::neighbours(from, u), v);
+        slices::put(from, u, row);
     }
-    Ways { up, down }
+}
+
+// The rows turned round: for each node those from which one of these hops leads to it.
+fn into_of(ways: &[u64]) -> Table
+    ensures { result ≡ into_of ways.now }
+{
+    let mut from = [0u64; MAX_NODES];
+    for v in 0..MAX_NODES {
+        enter(&mut from, v, network::neighbours(ways, v));
+    }
+    from
+}
+
+// The nodes in the row of some node of the set.
+fn touching(from: &[u64], set: Set) -> Set
+    ensures { members result ≡ set_of max_nodes (touches from.now (members set)) }
+{
+    let mut all = nodes::none();
+    for u in nodes::each(set) {
+        all = nodes::union(all, network::neighbours(from, u));
+    }
+    all
+}
+
+// For each node those that a hop from it rises or falls to (up, down), and those from which a hop rises or falls to it (over, under).
+#[derive(Clone, Copy)]
+struct Ways {
+    up: Table,
+    down: Table,
+    over: Table,
+    under: Table,
 }
 
 // One class of a search: the nodes that have joined, and the entry of each of them.
@@ -69,127 +104,86 @@ fn start(t: usize) -> Search
     }
 }
 
-// The lowest node to which a hop leads: up into the free set, or down into the falling one. 64 where there is none.
-fn lead(up: Set, down: Set, free: Set, falling: Set) -> usize
-    ensures { result ≡ least max_nodes (λ u. has (members up) u & has (members free) u or has (members down) u & has (members falling) u) }
-{
-    nodes::lowest(nodes::union(nodes::common(up, free), nodes::common(down, falling)))
-}
-
-// v joins the rows of the nodes of the set.
-fn enter(from: &mut [u64], v: usize, set: Set)
-    requires { length from.old ≡ max_nodes }
-    ensures { from.new ≡ entered_of v (members set) from.old }
-{
-    for u in nodes::each(set) {
-        let row = nodes::with(network::neighbours(from, u), v);
-        slices::put(from, u, row);
+impl Side {
+    // One class of a round: every node worth asking that has not joined yet joins where a hop leads from it. All tests go by the sets free and falling.
+    fn grow(&mut self, ways: &Ways, worth: Set, free: Set, falling: Set)
+        requires { Worth ways.now.up ways.now.down (members free) (members falling) (members self.old.members) (has (members worth)) }
+        ensures { self.new ≡ half_of ways.now.up ways.now.down (members free) (members falling) self.old }
+    {
+        for v in nodes::each(nodes::difference(worth, self.members)) {
+            let u = ways.lead(v, free, falling);
+            if u < MAX_NODES {
+                self.entries[v] = u as u8;
+                self.members = nodes::with(self.members, v);
+            }
+        }
     }
 }
 
-// The rows turned round: for each node those from which one of these hops leads to it.
-fn into_of(ways: &[u64]) -> network::Table
-    ensures { result ≡ into_of ways.now }
-{
-    let mut from = [0u64; MAX_NODES];
-    for v in 0..MAX_NODES {
-        enter(&mut from, v, network::neighbours(ways, v));
+impl Ways {
+    fn of(t: &[u64], labels: &[u8]) -> Ways
+        ensures { result ≡ ways_of (edge_of t.now) (λ u. get_or labels.now u 0) }
+    {
+        let up = row_of_each(|v| turns::rising(t, labels, v));
+        let down = row_of_each(|v| turns::falling(t, labels, v));
+        let over = into_of(&up);
+        let under = into_of(&down);
+        Ways {
+            up,
+            down,
+            over,
+            under,
+        }
     }
-    from
-}
 
-// The nodes in the row of some node of the set.
-fn touching(from: &[u64], set: Set) -> Set
-    ensures { members result ≡ set_of max_nodes (touches from.now (members set)) }
-{
-    let mut all = nodes::none();
-    for u in nodes::each(set) {
-        all = nodes::union(all, network::neighbours(from, u));
+    // The lowest node to which a hop from v leads: up into the free set, or down into the falling one. 64 where there is none.
+    fn lead(&self, v: usize, free: Set, falling: Set) -> usize
+        ensures { result ≡ lead_of self.now.up self.now.down (members free) (members falling) v }
+    {
+        let rises = nodes::common(network::neighbours(&self.up, v), free);
+        let falls = nodes::common(network::neighbours(&self.down, v), falling);
+        nodes::lowest(nodes::union(rises, falls))
     }
-    all
-}
 
-// One class of a round: every node worth asking that has not joined yet joins where a hop leads from it. All tests go by the sets free and falling.
-fn half(up: &[u64], down: &[u64], worth: Set, free: Set, falling: Set, side: Side) -> Side
-    requires { Worth up.now down.now (members free) (members falling) (members side.members) (has (members worth)) }
-    ensures { result ≡ half_of up.now down.now (members free) (members falling) side }
-{
-    let mut joined = side.members;
-    let mut entries = side.entries;
-    for v in nodes::each(nodes::difference(worth, side.members)) {
-        let u = lead(
-            network::neighbours(up, v),
-            network::neighbours(down, v),
-            free,
-            falling,
+    // One round, which asks those who can rise to what is newly free and those who can fall to what is newly falling.
+    // What falls already can't rise: it has no free set to rise into.
+    fn round(&self, rise: Set, fall: Set, s: Search) -> Search
+        requires { Asking self.now.up self.now.down s (members rise) (members fall) }
+        ensures { result ≡ round_of self.now.up self.now.down s }
+    {
+        let mut free = s.free;
+        let mut falling = s.falling;
+        free.grow(
+            self,
+            nodes::union(rise, fall),
+            s.free.members,
+            s.falling.members,
         );
-        if u < MAX_NODES {
-            entries[v] = u as u8;
-            joined = nodes::with(joined, v);
+        falling.grow(self, fall, nodes::none(), s.falling.members);
+        Search { free, falling }
+    }
+
+    // Rounds until no node joins. Only a node with a hop to what joined last can join, so only those are asked.
+    fn search(&self, t: usize) -> Search
+        requires { (t < max_nodes) × Turned self.now }
+        ensures { OfWays self.now (λ edge label. result ≡ search_at edge label t rounds) }
+    {
+        let mut s = start(t);
+        let mut new_free = nodes::one(t);
+        let mut new_falling = nodes::one(t);
+        for _ in 0..ROUNDS {
+            let rise = touching(&self.over, new_free);
+            let fall = touching(&self.under, new_falling);
+            let next = self.round(rise, fall, s);
+            new_free = nodes::difference(next.free.members, s.free.members);
+            new_falling = nodes::difference(next.falling.members, s.falling.members);
+            if nodes::is_empty(nodes::union(new_free, new_falling)) {
+                return s;
+            }
+            s = next;
         }
+        s
     }
-    Side {
-        members: joined,
-        entries,
-    }
-}
-
-// One round, which asks those who can rise to what is newly free and those who can fall to what is newly falling.
-// What falls already can't rise: it has no free set to rise into.
-fn round(up: &[u64], down: &[u64], rise: Set, fall: Set, s: Search) -> Search
-    requires { Asking up.now down.now s (members rise) (members fall) }
-    ensures { result ≡ round_of up.now down.now s }
-{
-    let a = s.free;
-    let b = s.falling;
-    let free = half(up, down, nodes::union(rise, fall), a.members, b.members, a);
-    let falling = half(up, down, fall, nodes::none(), b.members, b);
-    Search { free, falling }
-}
-
-// Rounds until no node joins. Only a node with a hop to what joined last can join, so only those are asked.
-fn search_for(up: &[u64], down: &[u64], over: &[u64], under: &[u64], t: usize) -> Search
-    requires { (t < max_nodes) × (over.now ≡ into_of up.now) × (under.now ≡ into_of down.now) }
-    ensures { OfWays up.now down.now (λ edge label. result ≡ search_at edge label t rounds) }
-{
-    let mut s = start(t);
-    let mut new_free = nodes::one(t);
-    let mut new_falling = nodes::one(t);
-    for k in 0..ROUNDS {
-        let rise = touching(over, new_free);
-        let fall = touching(under, new_falling);
-        let next = round(up, down, rise, fall, s);
-        let a = s.free;
-        let b = s.falling;
-        let c = next.free;
-        let d = next.falling;
-        new_free = nodes::difference(c.members, a.members);
-        new_falling = nodes::difference(d.members, b.members);
-        if nodes::is_empty(nodes::union(new_free, new_falling)) {
-            return s;
-        }
-        s = next;
-    }
-    s
-}
-
-// The entries of all nodes for one destination.
-#[derive(Clone, Copy)]
-struct Column {
-    free: [u8; MAX_NODES],
-    falling: [u8; MAX_NODES],
-}
-
-fn column_of(up: &[u64], down: &[u64], over: &[u64], under: &[u64], t: usize) -> Column
-    requires { (t < max_nodes) × (over.now ≡ into_of up.now) × (under.now ≡ into_of down.now) }
-    ensures { OfWays up.now down.now (λ edge label. result ≡ column_of edge label t) }
-{
-    let s = search_for(up, down, over, under, t);
-    let a = s.free;
-    let b = s.falling;
-    let free = a.entries;
-    let falling = b.entries;
-    Column { free, falling }
 }
 
 // Column d of a lent table with m columns becomes this one.
@@ -197,8 +191,8 @@ fn place(table: &mut [u8], column: &[u8], m: usize, d: usize)
     requires { (m ≤ max_nodes) × (d < m) × (length table.old ≡ table_size) × (length column.now ≡ max_nodes) }
     ensures { table.new ≡ placed_of m d column.now table.old }
 {
-    for v in 0..m {
-        table[v * m + d] = column[v];
+    for (v, entry) in slices::front(column, m).iter().enumerate() {
+        table[v * m + d] = *entry;
     }
 }
 
@@ -214,19 +208,13 @@ pub fn tables_of(t: &[u64], labels: &[u8], n: usize) -> Tables
     ensures { result ≡ tables_of max_nodes (min n max_nodes) (edge_of t.now) (λ u. get_or labels.now u 0) }
 {
     let m = nodes::capped(n);
-    let ways = ways_of(t, labels);
-    let up = ways.up;
-    let down = ways.down;
-    let over = into_of(&up);
-    let under = into_of(&down);
+    let ways = Ways::of(t, labels);
     let mut free = [0u8; TABLE];
     let mut falling = [0u8; TABLE];
     for d in 0..m {
-        let c = column_of(&up, &down, &over, &under, d);
-        let a = c.free;
-        let b = c.falling;
-        place(&mut free, &a, m, d);
-        place(&mut falling, &b, m, d);
+        let s = ways.search(d);
+        place(&mut free, &s.free.entries, m, d);
+        place(&mut falling, &s.falling.entries, m, d);
     }
     Tables { free, falling }
 }

@@ -1,42 +1,27 @@
--- `rows::place` meets its contract. The invariant: the cells of the column before row v are placed.
-use mathlib.Core.Path.{refl, sym, ◌∙◌}
-use Prim.Native.Nat.{◌+◌, ◌*◌, ◌<◌}
+-- `rows::place` meets its contract: row by row.
+use mathlib.Core.Path.{◌≡◌, ◌∙◌, ap}
+use mathlib.Core.List.{List}
+use Prim.Native.Nat.{ℕ}
 use native.Mathlib.Omega.{arith}
-use Rattle.rows.specs.Tables.{table_size}
-use Rattle.rows.proofs.Grid.{placing_none, placing_more, placing_all, cell-fits}
+use lib.ListN.{length, get_or}
+use lib.Seq.{length-take-le}
+use Rattle.std.proofs.lemmas.List.{get_or-take}
+use Rattle.rows.proofs.Grid.{placing_none, placing_more, placing_all}
 use Rattle.rows.proofs.place.Goals as goal
-use Rattle.rows.proofs.place.Goals.{In-loop-v}
+use Rattle.rows.proofs.place.Goals.{At-loop-v}
 
--- the cell is one of the table's
-cell : (c : In-loop-v) → c.loop-v.v * c.args.m + c.args.d < table_size
-cell c = cell-fits _ _ _ (omega arith) (omega arith) (omega arith)
+-- the column has an entry for each row
+rows : (l : At-loop-v) → length l.front-entry-items.result.now ≡ l.args.m
+rows l = ap length l.front-entry-items.ensures ∙ length-take-le _ _ (omega arith)
 
 pub loop-v-init : goal.loop-v-init
-loop-v-init c = (placing_none _ _ _ c.requires.2, omega arith)
-
-pub bounds-column-v : goal.bounds-column-v
-bounds-column-v c = omega arith
-
-pub overflow_mul-table : goal.overflow_mul-table
-overflow_mul-table c = omega (arith, cell (goal.at.overflow_mul-table c).In-loop-v)
-
-pub overflow_add-table : goal.overflow_add-table
-overflow_add-table c = omega (arith, cell (goal.at.overflow_add-table c).In-loop-v)
-
-pub bounds-table-v : goal.bounds-table-v
-bounds-table-v c = rw c.loop-v.invariant.0.size (cell (goal.at.bounds-table-v c).In-loop-v)
-
-pub overflow_step-v : goal.overflow_step-v
-overflow_step-v c = omega arith
-
-pub loop-v-smaller : goal.loop-v-smaller
-loop-v-smaller c = omega arith
+loop-v-init c = placing_none _ _ _ c.requires.2
 
 pub loop-v-preserved : goal.loop-v-preserved
-loop-v-preserved c = (placing_more c.loop-v.invariant.0 (omega arith) (omega arith) (omega arith) refl, omega arith)
-
-pub shape_of-table : goal.shape_of-table
-shape_of-table c = c.loop-v.invariant.0.size ∙ sym c.requires.2
+loop-v-preserved c =
+    let n = rows (goal.at.loop-v-preserved c).At-loop-v in
+    placing_more c.loop-v.invariant (omega arith) (omega arith) (omega arith)
+    (ap (λ (x : List ℕ). get_or x c.loop-v.v 0) c.front-entry-items.ensures ∙ get_or-take c.args.m c.args.column.now c.loop-v.v 0 (omega arith))
 
 pub returns : goal.returns
-returns c = placing_all c.loop-v.invariant.0 (omega arith)
+returns c = let n = rows (goal.at.returns c).At-loop-v in placing_all c.loop-v.invariant (omega arith)

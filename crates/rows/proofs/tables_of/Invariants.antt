@@ -1,14 +1,8 @@
 -- `rows::tables_of` meets its contract. The invariant: the columns of the destinations below d are placed.
-use mathlib.Core.Path.{◌≡◌}
-use Prim.Native.Nat.{◌-◌, ◌≤◌, min}
 use lib.ListN.{get_or}
-use Rattle.nodes.specs.Limits.{max_nodes}
 use Rattle.network.specs.Table.{edge_of}
 use Rattle.rows.proofs.Tabling.{Tabling}
 use Rattle.rows.proofs.tables_of.Given as goal
 
 abbrev pub invariant-loop-d : goal.invariant-loop-d
-invariant-loop-d l = Tabling (edge_of l.t) (λ u. get_or l.labels u 0) l.m l.up l.down l.free l.falling l.d × (l.m ≡ min l.n max_nodes) × (l.d ≤ l.m)
-
-abbrev pub decreases-loop-d : goal.decreases-loop-d
-decreases-loop-d l = l.m - l.d
+invariant-loop-d l = Tabling (edge_of l.t) (λ u. get_or l.labels u 0) l.m l.ways l.free l.falling l.d
