@@ -11,63 +11,97 @@ ghost use Rattle.cabling.specs.Faults.{bad_ends, is_above, not_above, pair_fault
 use nodes::{MAX_DEGREE, MAX_LINKS, MAX_NODES};
 use refusal::Refusal;
 
-// The first end of pair p, 0 past the end.
-fn low_end(pairs: &[u8], p: usize) -> usize
-    ensures { result ≡ low_end pairs.now p }
-{
-    if p < pairs.len() {
-        slices::byte_at(pairs, 2 * p)
-    } else {
-        0
+// A cabling as it is lent: N, and pairs of bytes. Nothing is known of either before it is checked.
+#[derive(Clone, Copy)]
+pub struct Cabling<'a> {
+    pub nodes: usize,
+    pub pairs: &'a [u8],
+}
+
+impl<'a> Cabling<'a> {
+    // The first end of pair p, 0 past the end.
+    fn low_end(&self, p: usize) -> usize
+        ensures { result ≡ low_end self.now.pairs.now p }
+    {
+        if p < self.pairs.len() {
+            usize::from(slices::byte(self.pairs, 2 * p))
+        } else {
+            0
+        }
     }
-}
 
-// Its second end.
-fn high_end(pairs: &[u8], p: usize) -> usize
-    ensures { result ≡ high_end pairs.now p }
-{
-    if p < pairs.len() {
-        slices::byte_at(pairs, 2 * p + 1)
-    } else {
-        0
+    // Its second end.
+    fn high_end(&self, p: usize) -> usize
+        ensures { result ≡ high_end self.now.pairs.now p }
+    {
+        if p < self.pairs.len() {
+            usize::from(slices::byte(self.pairs, 2 * p + 1))
+        } else {
+            0
+        }
     }
-}
 
-// Is a ≥ b or b ≥ n, for pair p?
-fn bad_ends(n: usize, pairs: &[u8], p: usize) -> bool
-    ensures { result ≡ bad_ends (cabled n pairs.now) p }
-{
-    let b = high_end(pairs, p);
-    b <= low_end(pairs, p) || n <= b
-}
-
-// Is pair q above pair p, first by a, then by b?
-fn is_above(pairs: &[u8], p: usize, q: usize) -> bool
-    ensures { result ≡ is_above pairs.now p q }
-{
-    (low_end(pairs, p), high_end(pairs, p)) < (low_end(pairs, q), high_end(pairs, q))
-}
-
-// Is pair p not above the one before?
-fn not_above(pairs: &[u8], p: usize) -> bool
-    ensures { result ≡ not_above pairs.now p }
-{
-    p != 0 && !is_above(pairs, p - 1, p)
-}
-
-// The fault of pair p: its ends before its place.
-fn pair_fault(n: usize, pairs: &[u8], p: usize) -> Result<(), Refusal>
-    ensures { result ≡ pair_fault (cabled n pairs.now) p }
-{
-    let ends = bad_ends(n, pairs, p);
-    let order = not_above(pairs, p);
-    if ends {
-        return Err(Refusal::Ends(p));
+    // Is a ≥ b or b ≥ N, for pair p?
+    fn bad_ends(&self, p: usize) -> bool
+        ensures { result ≡ bad_ends (cabled self.now.nodes self.now.pairs.now) p }
+    {
+        let b = self.high_end(p);
+        b <= self.low_end(p) || self.nodes <= b
     }
-    if order {
-        return Err(Refusal::Order(p));
+
+    // Is pair q above pair p, first by a, then by b?
+    fn is_above(&self, p: usize, q: usize) -> bool
+        ensures { result ≡ is_above self.now.pairs.now p q }
+    {
+        (self.low_end(p), self.high_end(p)) < (self.low_end(q), self.high_end(q))
     }
-    Ok(())
+
+    // Is pair p not above the one before?
+    fn not_above(&self, p: usize) -> bool
+        ensures { result ≡ not_above self.now.pairs.now p }
+    {
+        p != 0 && !self.is_above(p - 1, p)
+    }
+
+    // The fault of pair p: its ends before its place.
+    fn pair_fault(&self, p: usize) -> Result<(), Refusal>
+        ensures { result ≡ pair_fault (cabled self.now.nodes self.now.pairs.now) p }
+    {
+        let ends = self.bad_ends(p);
+        let order = self.not_above(p);
+        if ends {
+            return Err(Refusal::Ends(p));
+        }
+        if order {
+            return Err(Refusal::Order(p));
+        }
+        Ok(())
+    }
+
+    // The fault of the first bad pair; where there is none, what is wrong at a node.
+    fn link_fault(&self) -> Result<(), Refusal>
+        requires { self.now.nodes ≤ max_nodes }
+        ensures { result ≡ link_fault (cabled self.now.nodes self.now.pairs.now) }
+    {
+        // By its number, which is the place of its fault.
+        for p in 0..self.pairs.len() / 2 {
+            self.pair_fault(p)?;
+        }
+        node_fault(self.nodes, &network::table_of(self.pairs))
+    }
+
+    // The first fault of the cabling.
+    pub fn fault(&self) -> Result<(), Refusal>
+        ensures { result ≡ fault_of (cabled self.now.nodes self.now.pairs.now) }
+    {
+        if self.nodes < 2 || MAX_NODES < self.nodes {
+            return Err(Refusal::Count);
+        }
+        if self.pairs.len() % 2 != 0 || 2 * MAX_LINKS < self.pairs.len() {
+            return Err(Refusal::Shape);
+        }
+        self.link_fault()
+    }
 }
 
 // The lowest of the first n nodes with too many links.
@@ -97,29 +131,4 @@ fn node_fault(n: usize, t: &[u64]) -> Result<(), Refusal>
         return Err(Refusal::Apart(v));
     }
     Ok(())
-}
-
-// The fault of the first bad pair; where there is none, what is wrong at a node.
-fn link_fault(n: usize, pairs: &[u8]) -> Result<(), Refusal>
-    requires { n ≤ max_nodes }
-    ensures { result ≡ link_fault (cabled n pairs.now) }
-{
-    for p in 0..pairs.len() / 2 {
-        pair_fault(n, pairs, p)?;
-    }
-    let t = network::table_of(pairs);
-    node_fault(n, &t)
-}
-
-// The first fault of the cabling of n nodes and these pairs.
-pub fn fault(n: usize, pairs: &[u8]) -> Result<(), Refusal>
-    ensures { result ≡ fault_of (cabled n pairs.now) }
-{
-    if n < 2 || MAX_NODES < n {
-        return Err(Refusal::Count);
-    }
-    if pairs.len() % 2 != 0 || 2 * MAX_LINKS < pairs.len() {
-        return Err(Refusal::Shape);
-    }
-    link_fault(n, pairs)
 }

@@ -5,6 +5,7 @@ ghost use Rattle.std.specs.Prelude.{◌≡◌};
 ghost use Rattle.cabling.specs.Cabling.{cabled, Good};
 ghost use Rattle.fabric.specs.Fabric.{fabric_of, made_of};
 
+use cabling::Cabling;
 use nodes::MAX_NODES;
 use refusal::Refusal;
 use rows::TABLE;
@@ -19,27 +20,27 @@ pub struct Fabric {
 }
 
 // The fabric of a good cabling.
-fn good(n: usize, pairs: &[u8]) -> Fabric
-    requires { Good (cabled n pairs.now) }
-    ensures { result ≡ fabric_of (cabled n pairs.now) }
+fn good(cabling: &Cabling) -> Fabric
+    requires { Good (cabled cabling.now.nodes cabling.now.pairs.now) }
+    ensures { result ≡ fabric_of (cabled cabling.now.nodes cabling.now.pairs.now) }
 {
-    let t = network::table_of(pairs);
-    let labels = labels::labels(&t, n);
-    let tables = rows::tables_of(&t, &labels, n);
+    let t = network::table_of(cabling.pairs);
+    let labels = labels::labels(&t, cabling.nodes);
+    let tables = rows::tables_of(&t, &labels, cabling.nodes);
     let free = tables.free;
     let falling = tables.falling;
     Fabric {
-        nodes: n,
+        nodes: cabling.nodes,
         labels,
         free,
         falling,
     }
 }
 
-// The fabric of the cabling of n nodes and these pairs, or its first fault.
-pub fn make(n: usize, pairs: &[u8]) -> Result<Fabric, Refusal>
-    ensures { result ≡ made_of (cabled n pairs.now) }
+// The fabric of a cabling, or its first fault.
+pub fn make(cabling: &Cabling) -> Result<Fabric, Refusal>
+    ensures { result ≡ made_of (cabled cabling.now.nodes cabling.now.pairs.now) }
 {
-    cabling::fault(n, pairs)?;
-    Ok(good(n, pairs))
+    cabling.fault()?;
+    Ok(good(cabling))
 }

@@ -3,12 +3,13 @@
 
 ghost use Rattle.std.specs.Prelude.{◌≡◌, drop};
 ghost use Rattle.refusal.specs.Verdicts.{and_then};
-ghost use Rattle.cabling.specs.Cabling.{Good};
+ghost use Rattle.cabling.specs.Cabling.{cabled, Good};
 ghost use Rattle.fabric.specs.Fabric.{fabric_of, made_by};
 ghost use Rattle.format.specs.Bytes.{same_bodies};
 ghost use Rattle.image.specs.Image.{bodies_of, cabling_in};
 ghost use Rattle.image.specs.Faults.{front_fault, cabling_fault, tables_fault, links_fault, image_fault};
 
+use cabling::Cabling;
 use fabric::Fabric;
 use format::{FULL, LINKS};
 use nodes::{MAX_LINKS, MAX_NODES};
@@ -37,12 +38,22 @@ fn front_fault(image: &[u8]) -> Result<(), Refusal>
     Ok(())
 }
 
+// The cabling that kind 1 of an image holds.
+pub fn cabling_in(image: &[u8]) -> Cabling<'_>
+    ensures { cabled result.nodes result.pairs.now ≡ cabling_in image.now }
+{
+    Cabling {
+        nodes: format::nodes_in(image),
+        pairs: format::pairs_in(image),
+    }
+}
+
 // 2 to 7, of an image whose contents are in order.
 fn cabling_fault(image: &[u8]) -> Result<(), Refusal>
     ensures { result ≡ cabling_fault image.now }
 {
     front_fault(image)?;
-    cabling::fault(format::nodes_in(image), format::pairs_in(image))
+    cabling_in(image).fault()
 }
 
 // The fabric of an image whose contents are in order, or the first fault of its cabling, 2 to 7.
@@ -50,7 +61,7 @@ pub fn make_in(image: &[u8]) -> Result<Fabric, Refusal>
     ensures { result ≡ made_by (cabling_fault image.now) (cabling_in image.now) }
 {
     front_fault(image)?;
-    fabric::make(format::nodes_in(image), format::pairs_in(image))
+    fabric::make(&cabling_in(image))
 }
 
 // Are kinds 2, 3 and 4 the labels and rows of the fabric of the image's cabling?

@@ -1,10 +1,7 @@
 -- `image::cabling_fault` meets its contract.
 use Rattle.std.proofs.Common.{rules, Err}
-use mathlib.Core.Path.{◌≡◌, ◌∙◌, sym, ap₂}
-use mathlib.Core.List.{List}
-use Prim.Native.Nat.{ℕ}
+use mathlib.Core.Path.{◌≡◌, ◌∙◌, sym, ap}
 use Rattle.refusal.proofs.Verdicts.{then-fine, then-fault}
-use Rattle.cabling.specs.Cabling.{cabled}
 use Rattle.cabling.specs.Faults.{fault_of}
 use Rattle.image.proofs.cabling_fault.Goals as goal
 
@@ -15,5 +12,4 @@ returns-in_err-front_fault c =
 
 pub returns : goal.returns
 returns c =
-    c.fault.ensures ∙ ap₂ (λ (n : ℕ) (p : List ℕ). fault_of (cabled n p)) c.nodes_in.ensures c.pairs_in.ensures
-    ∙ sym (then-fine _ (sym c.front_fault.ensures ∙ c.in_ok-front_fault.was))
+    c.fault.ensures ∙ ap fault_of c.cabling_in.ensures ∙ sym (then-fine _ (sym c.front_fault.ensures ∙ c.in_ok-front_fault.was))

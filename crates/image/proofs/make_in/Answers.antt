@@ -1,10 +1,7 @@
 -- `image::make_in` meets its contract: a fault of the first two bytes, or what the cabling makes.
 use Rattle.std.proofs.Common.{rules, Err}
-use mathlib.Core.Path.{◌≡◌, ◌∙◌, sym, ap₂}
-use mathlib.Core.List.{List}
-use Prim.Native.Nat.{ℕ}
+use mathlib.Core.Path.{◌≡◌, ◌∙◌, sym, ap}
 use Rattle.refusal.proofs.Verdicts.{then-fine, then-fault}
-use Rattle.cabling.specs.Cabling.{cabled}
 use Rattle.fabric.specs.Fabric.{made_of}
 use Rattle.fabric.proofs.Making.{made_fault, made_as}
 use Rattle.image.proofs.make_in.Goals as goal
@@ -16,5 +13,4 @@ returns-in_err-front_fault c =
 
 pub returns : goal.returns
 returns c =
-    made_as _ (c.make.ensures ∙ ap₂ (λ (n : ℕ) (p : List ℕ). made_of (cabled n p)) c.nodes_in.ensures c.pairs_in.ensures)
-    (sym (then-fine _ (sym c.front_fault.ensures ∙ c.in_ok-front_fault.was)))
+    made_as _ (c.make.ensures ∙ ap made_of c.cabling_in.ensures) (sym (then-fine _ (sym c.front_fault.ensures ∙ c.in_ok-front_fault.was)))

@@ -1,4 +1,4 @@
--- `cabling::link_fault` meets its contract. The invariant: the pairs passed are fine.
+-- `cabling::Cabling::link_fault` meets its contract. The invariant: the pairs passed are fine.
 use Rattle.std.proofs.Common.{rules, Err}
 use mathlib.Core.Path.{◌≡◌, sym, ◌∙◌}
 use native.Mathlib.Omega.{arith}
@@ -6,7 +6,7 @@ use borrow.Author.Count.{below_more}
 use Rattle.cabling.specs.Cabling.{Cabling, cabled}
 use Rattle.cabling.proofs.Cases.{fault-pair, fine-pair, link_bad, link-fine}
 use Rattle.cabling.proofs.Width.{node-table}
-use Rattle.cabling.proofs.link_fault.Goals as goal
+use Rattle.cabling.proofs.Cabling.link_fault.Goals as goal
 
 pub returns-in_err-pair_fault : goal.returns-in_err-pair_fault
 returns-in_err-pair_fault c =
@@ -24,6 +24,6 @@ loop-p-preserved c = (
 
 pub returns : goal.returns
 returns c =
-    let k : Cabling = cabled c.args.n c.args.pairs.now in
-    c.node_fault.ensures ∙ node-table k (λ q h. (c.loop-p.invariant.0 q (omega arith)).0) (omega arith) c.table_of-t.ensures
+    let k : Cabling = cabled c.args.self.now.nodes c.args.self.now.pairs.now in
+    c.node_fault.ensures ∙ node-table k (λ q h. (c.loop-p.invariant.0 q (omega arith)).0) (omega arith) c.table_of.ensures
     ∙ sym (link-fine k c.loop-p.p c.loop-p.invariant.0 (omega arith))

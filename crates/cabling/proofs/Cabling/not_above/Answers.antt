@@ -1,4 +1,4 @@
--- `cabling::not_above` meets its contract: the first pair has none before it.
+-- `cabling::Cabling::not_above` meets its contract: the first pair has none before it.
 use mathlib.Core.Path.{refl, sym, ap}
 use mathlib.Core.Logic.{inl}
 use Rattle.finite.specs.Truth.{non}
@@ -6,7 +6,7 @@ use Rattle.finite.proofs.Truth.{not-non, and_true, true-non, ne_same}
 use Rattle.finite.proofs.Decide.{fail}
 use Rattle.cabling.specs.Faults.{not_above}
 use Rattle.cabling.proofs.Tests.{decide_order}
-use Rattle.cabling.proofs.not_above.Goals as goal
+use Rattle.cabling.proofs.Cabling.not_above.Goals as goal
 
 pub returns-then-p-ne0 : goal.returns-then-p-ne0
 unfolding not_above
