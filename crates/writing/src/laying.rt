@@ -10,6 +10,7 @@ ghost use Rattle.results.specs.Written.{Writes};
 ghost use Rattle.image.specs.Image.{image_of};
 ghost use Rattle.writing.specs.Laying.{head_of, front_of};
 
+use cabling::Cabling;
 use fabric::Fabric;
 use laid::Page;
 use refusal::Refusal;
@@ -31,29 +32,29 @@ fn contents_of(sizes: &[u16], out: &mut Page<'_>)
 }
 
 // The contents, and the body of kind 1.
-fn front(sizes: &[u16], n: usize, pairs: &[u8], out: &mut Page<'_>)
+fn front(sizes: &[u16], cabling: &Cabling, out: &mut Page<'_>)
     requires few { length sizes.now ≤ 255 }
-    requires count { n ≤ max_nodes }
+    requires count { cabling.now.nodes ≤ max_nodes }
     ensures same_buffer { out.new.bytes.ghost_name ≡ out.old.bytes.ghost_name }
-    ensures laid { LaysFrom (page_of out.old) (page_of out.new) (front_of sizes.now n pairs.now) }
+    ensures laid { LaysFrom (page_of out.old) (page_of out.new) (front_of sizes.now cabling.now.nodes cabling.now.pairs.now) }
 {
     contents_of(sizes, out);
-    out.put(&[n as u8, 0]);
-    out.put(pairs);
+    out.put(&[cabling.nodes as u8, 0]);
+    out.put(cabling.pairs);
 }
 
 // The links image.
-pub(crate) fn links(n: usize, pairs: &[u8], buffer: &mut [u8]) -> Result<usize, Refusal>
-    requires { Good (cabled n pairs.now) }
-    ensures { Writes (Ok tt) (image_of links_kinds (cabled n pairs.now)) buffer.old result buffer.new }
+pub(crate) fn links(cabling: &Cabling, buffer: &mut [u8]) -> Result<usize, Refusal>
+    requires { Good (cabled cabling.now.nodes cabling.now.pairs.now) }
+    ensures { Writes (Ok tt) (image_of links_kinds (cabled cabling.now.nodes cabling.now.pairs.now)) buffer.old result buffer.new }
 {
-    let size = 10 + pairs.len();
+    let size = 10 + cabling.pairs.len();
     if buffer.len() < size {
         return Err(Refusal::Short);
     }
-    let sizes = [(2 + pairs.len()) as u16];
+    let sizes = [(2 + cabling.pairs.len()) as u16];
     let mut out = Page::new(buffer);
-    front(&sizes, n, pairs, &mut out);
+    front(&sizes, cabling, &mut out);
     Ok(out.at)
 }
 
@@ -71,7 +72,7 @@ pub(crate) fn full(f: &Fabric, pairs: &[u8], buffer: &mut [u8]) -> Result<usize,
     }
     let sizes = [(2 + pairs.len()) as u16, n as u16, rows as u16, rows as u16];
     let mut out = Page::new(buffer);
-    front(&sizes, n, pairs, &mut out);
+    front(&sizes, &Cabling { nodes: n, pairs }, &mut out);
     out.put(slices::front(&f.labels, n));
     out.put(slices::front(&f.free, rows));
     out.put(slices::front(&f.falling, rows));

@@ -10,19 +10,20 @@ ghost use Rattle.image.specs.Faults.{links_fault};
 
 mod laying; // laying.rt: the bytes of an image, laid in a lent buffer
 
+use cabling::Cabling;
 use format::LINKS;
 use refusal::Refusal;
 
 // Writes the image of a cabling, full or links only, under the checks 2 to 7 and 9.
-pub fn write(n: usize, pairs: &[u8], full: bool, buffer: &mut [u8]) -> Result<usize, Refusal>
-    ensures { Writes (fault_of (cabled n pairs.now)) (image_of (kinds_of full) (cabled n pairs.now)) buffer.old result buffer.new }
+pub fn write(cabling: &Cabling, full: bool, buffer: &mut [u8]) -> Result<usize, Refusal>
+    ensures { Writes (fault_of (cabled cabling.now.nodes cabling.now.pairs.now)) (image_of (kinds_of full) (cabled cabling.now.nodes cabling.now.pairs.now)) buffer.old result buffer.new }
 {
     if full {
-        let f = fabric::make(n, pairs)?;
-        return laying::full(&f, pairs, buffer);
+        let f = fabric::make(cabling)?;
+        return laying::full(&f, cabling.pairs, buffer);
     }
-    cabling::fault(n, pairs)?;
-    laying::links(n, pairs, buffer)
+    cabling.fault()?;
+    laying::links(cabling, buffer)
 }
 
 // Writes the full image of a links image, under the checks 1 to 7 and 9.

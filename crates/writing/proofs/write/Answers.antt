@@ -40,4 +40,4 @@ pub returns : goal.returns
 returns c =
     let a = c.args in
     fine-writes (sym c.fault.ensures ∙ c.in_ok-fault.was)
-    (ap (λ (b : Bool). image_of (kinds_of b) (cabled a.n a.pairs.now)) (sym c.if-full.false)) c.links.ensures
+    (ap (λ (b : Bool). image_of (kinds_of b) (cabled a.cabling.now.nodes a.cabling.now.pairs.now)) (sym c.if-full.false)) c.links.ensures

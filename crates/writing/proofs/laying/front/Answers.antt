@@ -7,5 +7,5 @@ pub returns-clause-laid : goal.returns-clause-laid
 returns-clause-laid c = λ b p h.
     let a = c.args in
     let k = head-length a.sizes.now in
-    let m = front_length a.sizes.now a.n a.pairs.now in
+    let m = front_length a.sizes.now a.cabling.now.nodes a.cabling.now.pairs.now in
     front-lays _ _ _ (c.contents_of.ensures.laid b p (omega arith)) c.put.ensures.laid c.put-2.ensures.laid h

@@ -11,12 +11,12 @@ use Rattle.writing.proofs.laying.links.Goals as goal
 pub returns-then-buffer-size : goal.returns-then-buffer-size
 returns-then-buffer-size c =
     let a = c.args in
-    let e = links-size (cabled a.n a.pairs.now) in
+    let e = links-size (cabled a.cabling.now.nodes a.cabling.now.pairs.now) in
     no_room _ _ (omega arith)
 
 pub returns : goal.returns
 returns c =
     let a = c.args in
-    let e = front_length (links_sizes (cabled a.n a.pairs.now)) a.n a.pairs.now in
+    let e = front_length (links_sizes (cabled a.cabling.now.nodes a.cabling.now.pairs.now)) a.cabling.now.nodes a.cabling.now.pairs.now in
     let l = c.front.ensures.laid _ c.new-out.ensures.blank (omega arith) in
-    lays-writes {p = page _ _} (lays_left (lays_as l (links-image (cabled a.n a.pairs.now))) (search rules))
+    lays-writes {p = page _ _} (lays_left (lays_as l (links-image (cabled a.cabling.now.nodes a.cabling.now.pairs.now))) (search rules))
