@@ -1,13 +1,13 @@
 -- What `drain` answers, from what its calls answer.
-use Rattle.std.specs.Prelude.{Err, Ok}
+use Rattle.std.specs.Prelude.{Result, Err, Ok}
 use Rattle.refusal.specs.Verdicts.{Verdict}
-use mathlib.Core.Path.{◌≡◌, sym, ◌∙◌, ap}
+use mathlib.Core.Path.{◌≡◌, refl, sym, ◌∙◌, ap}
 use mathlib.Core.List.{List}
 use Prim.Native.Nat.{ℕ}
 use Rattle.refusal.specs.declared.Refusal.{Refusal}
 use Rattle.messages.specs.declared.Record.{Record}
-use Rattle.start.specs.declared.Started.{Started}
-use Rattle.start.specs.Start.{start_fault, fresh_of, record_after, start_of}
+use Rattle.start.specs.Start.{start_fault, fresh_of, fresh_by, record_after}
+use Rattle.start.proofs.Cases.{fault-fresh, fine-fresh}
 use Rattle.draining.specs.declared.Drained.{Drained}
 use Rattle.draining.specs.Drained.{end_of, drain_of}
 
@@ -16,24 +16,26 @@ module _ (old : Record) (b list : List ℕ) (seed : ℕ) where
   unfolding drain_of
   recorded v last e f = cc
 
-  module _ {x : Started} (e : x ≡ start_of old b list) where
-    pub started_refused : (f : Refusal) → x.verdict ≡ Err f → record { verdict = Err f; «record» = x.«record» } ≡ drain_of old b list seed
-    unfolding start_of record_after
-    started_refused f h =
-        let v : start_fault b list ≡ Err f = sym (ap (λ (s : Started). s.verdict) e) ∙ h in
-        recorded (Err f) x.«record» v (ap (λ (s : Started). s.«record») e ∙ ap (λ (w : Verdict). record_after w old (fresh_of b list)) v)
+  -- by the record that it ends with, or the fault
+  module _ {m : Result Record Refusal} (e : m ≡ fresh_by (start_fault b list) (end_of b list seed)) where
+    pub ended_refused : {r : Refusal} → m ≡ Err r → record { verdict = Err r; «record» = old } ≡ drain_of old b list seed
+    unfolding record_after
+    ended_refused {r} h = recorded (Err r) old (fault-fresh _ _ (sym e ∙ h)) refl
 
-    pub started_fine : x.verdict ≡ Ok tt → start_fault b list ≡ Ok tt
-    unfolding start_of
-    started_fine h = sym (ap (λ (s : Started). s.verdict) e) ∙ h
+    pub ended_fine : {x : Record} → m ≡ Ok x → record { verdict = Ok tt; «record» = x } ≡ drain_of old b list seed
+    unfolding record_after
+    ended_fine h = let f = fine-fresh _ _ (sym e ∙ h) in recorded (Ok tt) _ f.0 f.1
 
-    pub started_fresh : x.verdict ≡ Ok tt → x.«record» ≡ fresh_of b list
-    unfolding start_of record_after
-    started_fresh h = ap (λ (s : Started). s.«record») e ∙ ap (λ (w : Verdict). record_after w old (fresh_of b list)) (started_fine h)
+-- the record that it ends with, or the fault of its start
+module _ (b list : List ℕ) (seed : ℕ) where
+  pub fault_ends : {m : Result Record Refusal} {r : Refusal} → m ≡ fresh_by (start_fault b list) (fresh_of b list) → m ≡ Err r
+      → Err r ≡ fresh_by (start_fault b list) (end_of b list seed)
+  unfolding fresh_by
+  fault_ends e h = rw (fault-fresh _ _ (sym e ∙ h)) refl
 
-  pub drained_is : start_fault b list ≡ Ok tt → {last : Record} → last ≡ end_of b list seed → record { verdict = Ok tt; «record» = last } ≡ drain_of old b list seed
-  unfolding record_after
-  drained_is v {last} e = recorded (Ok tt) last v e
+  pub fine_ends : start_fault b list ≡ Ok tt → {last : Record} → last ≡ end_of b list seed → Ok last ≡ fresh_by (start_fault b list) (end_of b list seed)
+  unfolding fresh_by
+  fine_ends v e = rw (v, e) refl
 
 -- what a caller reads off an answer of `drain`
 module _ (old : Record) (b list : List ℕ) (seed : ℕ) {x : Drained} (e : x ≡ drain_of old b list seed) where

@@ -13,7 +13,7 @@ use Rattle.fabric.specs.Fabric.{fabric_of}
 use Rattle.format.specs.Contents.{nodes_in}
 use Rattle.image.specs.Image.{cabling_in}
 use Rattle.nodes.specs.Limits.{max_nodes}
-use Rattle.messages.specs.Sizes.{max_messages, node_channels}
+use Rattle.messages.specs.Sizes.{node_channels}
 use Rattle.messages.specs.declared.Record.{Record}
 use Rattle.messages.specs.Fresh.{source_in, target_in, begun_of}
 use Rattle.messages.specs.Runs.{Listed, messages_in, route_in, all_moves}
@@ -28,7 +28,7 @@ use Rattle.picking.specs.declared.Picked.{Picked}
 use Rattle.picking.specs.Order.{pick_of}
 use Rattle.picking.specs.InPlace.{pick_in}
 use Rattle.picking.proofs.InPlace.{pick-in}
-use Rattle.draining.specs.Drained.{after, sum_of, end_of}
+use Rattle.draining.specs.Drained.{PicksIn, after, sum_of, end_of}
 use Rattle.draining.proofs.Picks.{after-done, after-pick, pick_run, pick_less}
 
 -- the sum is the same over the labels that a record holds
@@ -78,17 +78,20 @@ module _ (b list : List ℕ) (fine : start_fault b list ≡ Ok tt) where
     pub running_all : all_delivered last ≡ true → last ≡ end_of b list seed
     running_all d = sym (after-done _ next last d) ∙ i.ends
 
-    -- the record has a mark for each of 256 messages
-    pub running_marks : length last.delivered ≡ max_messages
-    running_marks = (reached_state tabled listed i.run).1.kept.delivered_size
-
-    running_free : (span : ℕ) → span ≡ node_channels * min last.nodes max_nodes → FreeFrom span last.holders
+    running_free : (span : ℕ) → span ≡ node_channels * min (fresh_of b list).nodes max_nodes → FreeFrom span last.holders
+    unfolding fresh_of begun_of fabric_of
     running_free span e =
-        let n = (reached_state tabled listed i.run).1.kept.nodes in
         let m = tabled.most in
         let s : span ≡ node_channels * nodes_in b = omega arith in
         rw s (free-from tabled listed i.run)
 
     -- no channel is held but those of the N nodes, so a pick may leave out those behind
-    pub running_pick : (span : ℕ) → span ≡ node_channels * min last.nodes max_nodes → pick_in span next last ≡ pick_of next last
+    pub running_pick : (span : ℕ) → span ≡ node_channels * min (fresh_of b list).nodes max_nodes → pick_in span next last ≡ pick_of next last
     running_pick span e = pick-in span next last (reached_state tabled listed i.run).1.kept.holders_size (running_free span e)
+
+    module _ {span seed-after : ℕ} {after-it : Record} (e : span ≡ node_channels * min (fresh_of b list).nodes max_nodes) (p : PicksIn span next last seed-after after-it) (d : all_delivered last ≡ false) where
+      pub runs_on : Running b list seed seed-after after-it
+      runs_on = let q = running_pick span e in rw (p.seeded, p.moved) (running_more q d)
+
+      pub fewer_left : sum_of b list - after-it.moves < sum_of b list - last.moves
+      fewer_left = let q = running_pick span e in rw p.moved (running_less q d)

@@ -1,5 +1,5 @@
 -- RULES 10.4: "Moves go on until every message is delivered."
-use Rattle.std.specs.Prelude.{true, false, List, ℕ, zero, suc}
+use Rattle.std.specs.Prelude.{◌≡◌, true, false, List, ℕ, zero, suc}
 use Rattle.cabling.specs.Cabling.{links}
 use Rattle.fabric.specs.Fabric.{labels_for}
 use Rattle.format.specs.Contents.{nodes_in}
@@ -10,6 +10,7 @@ use Rattle.messages.specs.Ready.{all_delivered}
 use Rattle.start.specs.Start.{start_fault, fresh_of, record_after}
 use Rattle.draining.specs.declared.Drained.{Drained}
 use Rattle.picking.specs.Order.{pick_of}
+use Rattle.picking.specs.InPlace.{pick_in}
 
 -- the record once every message is delivered, or after k picks
 unfoldable pub after : ℕ → ℕ → Record → Record
@@ -20,6 +21,11 @@ after (suc k) seed r = elim (all_delivered r) [ true ↦ r | false ↦ after k (
 -- takes. That these hops are the shortest is `sum_of_shortest` (messages/proofs/Total)
 abbrev pub sum_of : List ℕ → List ℕ → ℕ
 sum_of b list = all_moves (nodes_in b) (links (cabling_in b)) (labels_for (cabling_in b)) list
+
+-- one pick in a record that stays in its place: the next seed, and the record after it
+pub record PicksIn (span seed : ℕ) (old : Record) (next : ℕ) (new : Record) : Type 0 where
+  pub seeded : next ≡ (pick_in span seed old).seed
+  pub moved : new ≡ (pick_in span seed old).«record»
 
 -- a whole drain, from a fresh start on
 unfoldable pub end_of : List ℕ → List ℕ → ℕ → Record

@@ -2,80 +2,70 @@
 #![tactic(auto)]
 
 ghost use Rattle.std.specs.Prelude.{◌≡◌};
-ghost use Rattle.draining.specs.Drained.{drain_of};
+ghost use Rattle.start.specs.Start.{start_fault, fresh_by};
+ghost use Rattle.draining.specs.Drained.{PicksIn, end_of, drain_of};
 
+use hops::Tables;
+use machine::Lent;
 use messages::{NODE_CHANNELS, Record};
-use refusal::Verdict;
+use refusal::Refusal;
 
 // What a drain answers: the verdict on its start, and the record: drained, or as it was where the start is refused.
 #[derive(Clone, Copy)]
 pub struct Drained {
-    pub verdict: Verdict,
+    pub verdict: Result<(), Refusal>,
     pub record: Record,
 }
 
-// Starts the machine, and moves messages until every one is delivered. No channel is held but those of the N nodes, so those behind are not looked at.
+// One pick, in the record where it stands: the next seed. A message that is delivered gives back only channels below `span`.
+fn pick(record: &mut Record, seed: u32, span: usize) -> u32
+    ensures { PicksIn span seed «record».old result «record».new }
+{
+    let mut lent = Lent {
+        tables: Tables {
+            nodes: record.nodes,
+            labels: &record.labels,
+            free: &record.free,
+            falling: &record.falling,
+        },
+        messages: record.messages,
+        moves: &mut record.moves,
+        targets: &record.targets,
+        heads: &mut record.heads,
+        classes: &mut record.classes,
+        wants: &mut record.wants,
+        delivered: &mut record.delivered,
+        holders: &mut record.holders,
+    };
+    let picked = picking::pick_in(seed, &mut lent, span);
+    picked.seed
+}
+
+// The record once every message is delivered, or the first fault of its start. No channel is held but those of the N nodes, so those behind are not looked at.
+fn end(image: &[u8], list: &[u8], seed: u32) -> Result<Record, Refusal>
+    ensures { result ≡ fresh_by (start_fault image.now list.now) (end_of image.now list.now seed) }
+{
+    let mut last = start::fresh(image, list)?;
+    let span = NODE_CHANNELS * nodes::capped(last.nodes);
+    let mut next = seed;
+    while !machine::all_delivered_in(last.messages, &last.delivered) {
+        next = pick(&mut last, next, span);
+    }
+    Ok(last)
+}
+
+// Starts the machine, and moves messages until every one is delivered.
 pub fn drain(record: Record, image: &[u8], list: &[u8], seed: u32) -> Drained
     ensures { result ≡ drain_of «record» image.now list.now seed }
 {
-    let started = start::start(record, image, list);
-    let verdict = started.verdict;
-    let last = started.record;
-    if let Verdict::Fault(r) = verdict {
-        return Drained {
-            verdict: Verdict::Fault(r),
+    match end(image, list, seed) {
+        Ok(last) => Drained {
+            verdict: Ok(()),
             record: last,
-        };
-    }
-    let nodes = last.nodes;
-    let messages = last.messages;
-    let labels = last.labels;
-    let free = last.free;
-    let falling = last.falling;
-    let targets = last.targets;
-    let mut heads = last.heads;
-    let mut classes = last.classes;
-    let mut wants = last.wants;
-    let mut delivered = last.delivered;
-    let mut holders = last.holders;
-    let mut moves = last.moves;
-    let mut next = seed;
-    let span = NODE_CHANNELS * nodes::capped(nodes);
-    while !machine::all_delivered_in(messages, &delivered) {
-        let picked = picking::pick_in(
-            next,
-            nodes,
-            messages,
-            moves,
-            span,
-            &labels,
-            &free,
-            &falling,
-            &targets,
-            &mut heads,
-            &mut classes,
-            &mut wants,
-            &mut delivered,
-            &mut holders,
-        );
-        next = picked.seed;
-        moves = picked.moves;
-    }
-    Drained {
-        verdict: Verdict::Fine,
-        record: Record {
-            nodes,
-            messages,
-            moves,
-            labels,
-            free,
-            falling,
-            targets,
-            heads,
-            classes,
-            wants,
-            delivered,
-            holders,
+        },
+        Err(r) => Drained {
+            verdict: Err(r),
+            record,
         },
     }
 }

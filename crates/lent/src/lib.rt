@@ -6,16 +6,16 @@ ghost use Rattle.messages.specs.Step.{with, step_of};
 ghost use Rattle.start.specs.Start.{beside, start_of};
 
 use messages::{Answer, Record, Stepped};
-use refusal::Verdict;
+use refusal::Refusal;
 use start::Started;
 
 // One move of a message. RULES 8.1: "Its caller lends it for the length of one move."
 pub fn advance(record: &mut Record, message: usize) -> Answer
     ensures { with «record».new result ≡ step_of «record».old message }
 {
-    let s = records::step(*record, message);
-    *record = s.record;
-    s.answer
+    let done = records::step(*record, message);
+    *record = done.record;
+    done.answer
 }
 
 // The same by value.
@@ -31,12 +31,11 @@ pub fn moved(record: Record, message: usize) -> Stepped
 }
 
 // RULES 8.2: "Start fills a lent record anew, from an image (under read's rules) and a list of byte pairs (source, destination)".
-pub fn start(record: &mut Record, image: &[u8], list: &[u8]) -> Verdict
+pub fn start(record: &mut Record, image: &[u8], list: &[u8]) -> Result<(), Refusal>
     ensures { beside result «record».new ≡ start_of «record».old image.now list.now }
 {
-    let s = start::start(*record, image, list);
-    *record = s.record;
-    s.verdict
+    *record = start::fresh(image, list)?;
+    Ok(())
 }
 
 // The same by value.

@@ -45,13 +45,7 @@ fn choice(messages: usize, wants: &[u16], delivered: &[u8], holders: &[u16], loo
 }
 
 // The next seed, where it says to look, and the message that is found there.
-fn found(
-    seed: u32,
-    messages: usize,
-    wants: &[u16],
-    delivered: &[u8],
-    holders: &[u16],
-) -> PickedIn
+fn found(seed: u32, messages: usize, wants: &[u16], delivered: &[u8], holders: &[u16]) -> PickedIn
     ensures seed { result.seed ≡ next_seed seed }
     ensures look { result.look ≡ look_at result.seed (min messages max_messages) }
     ensures message { result.message ≡ chosen_by (min messages max_messages) (ready_at wants.now delivered.now holders.now) result.look }

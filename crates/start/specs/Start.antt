@@ -1,7 +1,8 @@
 -- The start call: what it refuses, and the record afterwards.
-use Rattle.std.specs.Prelude.{Bool, true, false, List, ℕ, ◌/◌, ◌%◌, leb, eqb, length, Err, Ok}
+use Rattle.std.specs.Prelude.{Bool, true, false, List, ℕ, ◌/◌, ◌%◌, leb, eqb, length, Result, Err, Ok}
 use Rattle.finite.specs.Truth.{◌&◌, ◌or◌, below}
 use Rattle.finite.specs.Search.{least}
+use Rattle.refusal.specs.declared.Refusal.{Refusal}
 use Rattle.refusal.specs.declared.Refusal.TheVariants.{Unknown, Messages}
 use Rattle.refusal.specs.Verdicts.{and_then, Verdict}
 use Rattle.fabric.specs.declared.Fabric.{Fabric}
@@ -42,6 +43,11 @@ fresh_in f list = begun_of f.nodes f.labels f.free f.falling list
 
 unfoldable pub fresh_of : List ℕ → List ℕ → Record
 fresh_of b list = fresh_in (fabric_of (cabling_in b)) list
+
+-- that record, or the fault
+unfoldable pub fresh_by : Verdict → Record → Result Record Refusal
+fresh_by (Ok _) r = Ok r
+fresh_by (Err f) r = Err f
 
 -- RULES 9.3: "Buffers and record stay as they were."
 unfoldable pub record_after : Verdict → Record → Record → Record

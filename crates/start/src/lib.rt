@@ -2,17 +2,16 @@
 #![tactic(auto)]
 
 ghost use Rattle.std.specs.Prelude.{◌≡◌, ◌<◌, ◌/◌, length};
-ghost use Rattle.finite.specs.Search.{least};
-ghost use Rattle.start.specs.Start.{strange, list_fault, fresh_in, start_of};
+ghost use Rattle.finite.specs.Lowest.{lowest};
+ghost use Rattle.start.specs.Start.{strange, list_fault, start_fault, fresh_of, fresh_by, start_of};
 
-use fabric::Fabric;
 use messages::{MAX_LIST, Record};
-use refusal::{Refusal, Verdict};
+use refusal::Refusal;
 
 // What start answers: the verdict, and the record: fresh, or as it was where the call is refused.
 #[derive(Clone, Copy)]
 pub struct Started {
-    pub verdict: Verdict,
+    pub verdict: Result<(), Refusal>,
     pub record: Record,
 }
 
@@ -21,74 +20,53 @@ fn is_strange(n: usize, list: &[u8], p: usize) -> bool
     requires { p < length list.now / 2 }
     ensures { result ≡ strange n list.now p }
 {
-    if n <= slices::byte_at(list, 2 * p) {
-        return true;
-    }
-    n <= slices::byte_at(list, 2 * p + 1)
+    n <= usize::from(slices::byte(list, 2 * p)) || n <= usize::from(slices::byte(list, 2 * p + 1))
 }
 
-// The first message with an end that is not a node, the number of messages where there is none.
-fn first_strange(n: usize, list: &[u8]) -> usize
-    ensures { result ≡ least (length list.now / 2) (strange n list.now) }
+// The first message with an end that is not a node.
+fn first_strange(n: usize, list: &[u8]) -> Option<usize>
+    ensures { result ≡ lowest (length list.now / 2) (strange n list.now) }
 {
-    let messages = list.len() / 2;
-    for p in 0..messages {
-        if is_strange(n, list, p) {
-            return p;
-        }
-    }
-    messages
+    (0..list.len() / 2).find(|&p| is_strange(n, list, p))
 }
 
 // 11, then 10 at the message's place.
-fn list_fault(n: usize, list: &[u8]) -> Verdict
+fn list_fault(n: usize, list: &[u8]) -> Result<(), Refusal>
     ensures { result ≡ list_fault n list.now }
 {
     if list.len() % 2 != 0 {
-        return Verdict::Fault(Refusal::Messages);
+        return Err(Refusal::Messages);
     }
     if MAX_LIST < list.len() {
-        return Verdict::Fault(Refusal::Messages);
+        return Err(Refusal::Messages);
     }
-    let p = first_strange(n, list);
-    if p < list.len() / 2 {
-        return Verdict::Fault(Refusal::Unknown(p));
+    if let Some(p) = first_strange(n, list) {
+        return Err(Refusal::Unknown(p));
     }
-    Verdict::Fine
+    Ok(())
 }
 
-// The record of a fresh start in a fabric.
-fn fresh(f: Fabric, list: &[u8]) -> Record
-    ensures { result ≡ fresh_in f list.now }
+// The record of a fresh start, or the first fault: 1 to 8 of the image, 11 and 10 of the list.
+pub fn fresh(image: &[u8], list: &[u8]) -> Result<Record, Refusal>
+    ensures { result ≡ fresh_by (start_fault image.now list.now) (fresh_of image.now list.now) }
 {
-    let labels = f.labels;
-    let free = f.free;
-    let falling = f.falling;
-    records::begun(f.nodes, labels, free, falling, list)
+    let f = image::open(image)?;
+    list_fault(f.nodes, list)?;
+    Ok(records::begun(f.nodes, f.labels, f.free, f.falling, list))
 }
 
-// Starts the machine afresh: 1 to 8 of the image, 11, 10.
+// Starts the machine afresh.
 pub fn start(record: Record, image: &[u8], list: &[u8]) -> Started
     ensures { result ≡ start_of «record» image.now list.now }
 {
-    let opened = image::open(image);
-    let first = opened.verdict;
-    if let Verdict::Fault(r) = first {
-        return Started {
-            verdict: Verdict::Fault(r),
+    match fresh(image, list) {
+        Ok(after) => Started {
+            verdict: Ok(()),
+            record: after,
+        },
+        Err(r) => Started {
+            verdict: Err(r),
             record,
-        };
-    }
-    let f = opened.fabric;
-    let second = list_fault(f.nodes, list);
-    if let Verdict::Fault(r) = second {
-        return Started {
-            verdict: Verdict::Fault(r),
-            record,
-        };
-    }
-    Started {
-        verdict: Verdict::Fine,
-        record: fresh(f, list),
+        },
     }
 }
