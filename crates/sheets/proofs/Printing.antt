@@ -1,10 +1,9 @@
 -- The lines of a cabling laid one behind the other are its sheet, and how long a sheet may be.
-use mathlib.Core.Path.{◌≡◌, refl, sym, ◌∙◌, ap}
+use mathlib.Core.Path.{◌≡◌, refl, sym, ap}
 use mathlib.Core.List.{List, [], ◌∷◌, ◌++◌, append_assoc, append-nil}
-use Prim.Native.Nat.{ℕ, zero, suc, ◌+◌, ◌*◌, ◌/◌, ◌≤◌, ◌<◌}
+use Prim.Native.Nat.{ℕ, zero, suc, ◌+◌, ◌*◌, ◌≤◌, ◌<◌}
 use native.Mathlib.Omega.{arith}
-use lib.ListN.{length, get_or, drop, replicate, length-replicate, length-drop}
-use Rattle.finite.proofs.Slices.{drop-next}
+use lib.ListN.{length, get_or, drop, replicate, length-replicate}
 use Rattle.cabling.specs.Cabling.{Cabling, Good}
 use Rattle.cabling.proofs.Joined.{good-low}
 use Rattle.nodes.specs.Limits.{max_nodes}
@@ -19,38 +18,21 @@ use Rattle.read_lines.specs.Numbers.{numbers_line}
 use Rattle.sheets.specs.Sheet.{link_lines, sheet_of, node_digits, longest_sheet}
 use Rattle.sheets.specs.Held.{with_links, with_sheet}
 
--- ---- line by line, as the loop lays them
+-- ---- pair by pair, as the loop lays their lines
 
--- with the lines of the pairs from p on behind it, what is laid is all
-pub record Printed (first : Page) (pairs : List ℕ) (now : Page) (p : ℕ) : Type 0 where
-  pub low : p ≤ length pairs / 2
-  pub rest : with_links now (drop (2 * p) pairs) ≡ with_links first pairs
-
-pub printed_begin : (first : Page) (pairs : List ℕ) → Printed first pairs first 0
-printed_begin first pairs = record { low = omega arith; rest = refl }
-
-pub printed_next : {first now next : Page} {pairs : List ℕ} {p a b : ℕ} → Printed first pairs now p → p < length pairs / 2
-    → a ≡ get_or pairs (2 * p) 0 → b ≡ get_or pairs (2 * p + 1) 0 → next ≡ with_line now (decimal_of a) (b ∷ []) → Printed first pairs next (p + 1)
+pub links_next : (now next : Page) (left : List ℕ) → 2 ≤ length left → next ≡ with_line now (decimal_of (get_or left 0 0)) (get_or left 1 0 ∷ [])
+    → with_links next (drop 2 left) ≡ with_links now left
 unfolding with_links
-printed_next {first} {now} {next} {pairs} {p} t l ea eb e = record {
-  low = omega arith;
-  rest = rw (e, ea, eb)
-      (sym (ap (with_links now) (drop-next pairs (2 * p) (2 * p + 1) (omega arith) (omega arith)
-      ∙ ap (λ (x : List ℕ). get_or pairs (2 * p) 0 ∷ x) (drop-next pairs (2 * p + 1) (2 * (p + 1)) (omega arith) (omega arith)))) ∙ t.rest);
-}
+links_next now next [] h e = absurd (omega arith)
+links_next now next (a ∷ []) h e = absurd (omega arith)
+links_next now next (a ∷ b ∷ left) h e = ap (λ (p : Page). with_links p left) e
 
 -- behind the last pair stands one byte at the most
-none_left : (now : Page) (l : List ℕ) → length l ≤ 1 → now ≡ with_links now l
+pub links_end : (now : Page) (left : List ℕ) → length left < 2 → with_links now left ≡ now
 unfolding with_links
-none_left now [] h = refl
-none_left now (x ∷ []) h = refl
-none_left now (x ∷ y ∷ l) h = absurd (omega arith)
-
-pub printed_end : {first now : Page} {pairs : List ℕ} {p : ℕ} → Printed first pairs now p → length pairs / 2 ≤ p → now ≡ with_links first pairs
-printed_end {first} {now} {pairs} {p} t l =
-    let low = t.low in
-    let size = length-drop (2 * p) pairs in
-    none_left now (drop (2 * p) pairs) (omega arith) ∙ t.rest
+links_end now [] h = refl
+links_end now (a ∷ []) h = refl
+links_end now (a ∷ b ∷ left) h = absurd (omega arith)
 
 -- ---- in a buffer with room
 

@@ -9,9 +9,9 @@ use Rattle.sheets.specs.Sheet.{pairs_on}
 use Rattle.sheets.specs.Faults.{link_lines_fault}
 
 -- the verdict on the lines of links, and the pairs that they tell, as many as the buffer holds
-pub record Holds (ls : List (List ℕ)) (before : List ℕ) (verdict : Verdict) (size : ℕ) (after : List ℕ) : Type 0 where
+pub record Holds (ls : List (List ℕ)) (before : List ℕ) (verdict : Verdict) (held : Page) : Type 0 where
   pub answers : verdict ≡ link_lines_fault 1 ls
-  pub pairs : verdict ≡ Ok tt → take size after ≡ take (length before) (pairs_on ls)
+  pub pairs : verdict ≡ Ok tt → take held.at held.bytes ≡ take (length before) (pairs_on ls)
 
 -- what is laid with the lines of links behind it, and with a whole sheet
 unfoldable pub with_links : Page → List ℕ → Page

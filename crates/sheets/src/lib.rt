@@ -3,15 +3,15 @@
 
 ghost use Rattle.std.specs.Prelude.{◌≡◌};
 ghost use Rattle.cabling.specs.Cabling.{cabled};
-ghost use Rattle.laid.specs.Laid.{page};
+ghost use Rattle.laid.specs.Lent.{page_of};
 ghost use Rattle.sheets.specs.Promises.{Cables, Sheets};
 ghost use Rattle.sheets.specs.Held.{with_sheet};
 
 mod links; // links.rt: the lines of links, read
 
+use laid::Page;
 use nodes::MAX_LINKS;
-use refusal::{Refusal, Verdict};
-use results::Written;
+use refusal::Refusal;
 
 // The digits of N at the most.
 const NODE_DIGITS: usize = 2;
@@ -23,43 +23,38 @@ pub const LONGEST: usize = NODE_DIGITS + 1 + MAX_LINKS * (NODE_DIGITS + 1 + NODE
 const HELD: usize = 2 * MAX_LINKS + 2;
 
 // Writes the links image of a sheet, under the checks 12, 2 to 7 and 9.
-pub fn cable(sheet: &[u8], buffer: &mut [u8]) -> Written
+pub fn cable(sheet: &[u8], buffer: &mut [u8]) -> Result<usize, Refusal>
     ensures { Cables sheet.now buffer.old result buffer.new }
 {
-    let head = read_lines::one(sheet);
-    if head.size == 0 {
-        return Written::NotWritten(Refusal::Line(0));
-    }
-    let mut pairs = [0u8; HELD];
-    let found = links::read(slices::rest(sheet, head.size), &mut pairs);
-    let verdict = found.verdict;
-    if let Verdict::Fault(r) = verdict {
-        return Written::NotWritten(r);
-    }
-    writing::write(head.first, slices::front(&pairs, found.size), false, buffer)
+    let Some(head) = read_lines::one(sheet) else {
+        return Err(Refusal::Line(0));
+    };
+    let mut held = [0u8; HELD];
+    let mut pairs = Page::new(&mut held);
+    links::read(slices::rest(sheet, head.size), &mut pairs)?;
+    writing::write(head.first, pairs.laid(), false, buffer)
 }
 
-// The lines of a cabling, laid into a buffer.
-fn print(n: usize, pairs: &[u8], out: &mut [u8]) -> usize
-    ensures { page out.new result ≡ with_sheet (page out.old 0) (cabled n pairs.now) }
+// The lines of a cabling, laid behind what is there.
+fn print(n: usize, pairs: &[u8], out: &mut Page<'_>)
+    ensures same_buffer { out.new.bytes.ghost_name ≡ out.old.bytes.ghost_name }
+    ensures laid { page_of out.new ≡ with_sheet (page_of out.old) (cabled n pairs.now) }
 {
-    let mut at = lines::number_line(out, 0, n, &[]);
-    for p in 0..pairs.len() / 2 {
-        let b = [slices::byte_at(pairs, 2 * p + 1)];
-        at = lines::number_line(out, at, slices::byte_at(pairs, 2 * p), &b);
+    lines::number_line::<u8>(out, n, &[]);
+    let mut left = pairs;
+    while let [a, b, rest @ ..] = left {
+        lines::number_line(out, usize::from(*a), &[*b]);
+        left = rest;
     }
-    at
 }
 
 // Writes the sheet of a links image, under the checks 1 to 7 and 9.
-pub fn sheet(image: &[u8], buffer: &mut [u8]) -> Written
+pub fn sheet(image: &[u8], buffer: &mut [u8]) -> Result<usize, Refusal>
     ensures { Sheets image.now buffer.old result buffer.new }
 {
-    let checked = image::links_verdict(image);
-    if let Verdict::Fault(r) = checked {
-        return Written::NotWritten(r);
-    }
+    image::links_verdict(image)?;
     let mut text = [0u8; LONGEST];
-    let size = print(format::nodes_in(image), format::pairs_in(image), &mut text);
-    results::place(slices::front(&text, size), buffer)
+    let mut out = Page::new(&mut text);
+    print(format::nodes_in(image), format::pairs_in(image), &mut out);
+    results::place(out.laid(), buffer)
 }

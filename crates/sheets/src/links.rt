@@ -1,40 +1,27 @@
 // The lines of links of a sheet: whether each is one, and the pairs that they tell.
-ghost use Rattle.std.specs.Prelude.{◌≡◌, ◌%◌, length};
+ghost use Rattle.std.specs.Prelude.{◌≡◌, List, ℕ, ◌%◌, length};
+ghost use Rattle.laid.specs.Laid.{page};
+ghost use Rattle.laid.specs.Lent.{page_of};
 ghost use Rattle.read_lines.specs.Lines.{lines_of};
 ghost use Rattle.sheets.specs.Held.{Holds};
 
-use refusal::{Refusal, Verdict};
+use laid::Page;
+use refusal::Refusal;
 
-// What is found: 12 at the first bad line, where line 1 is the first; where there is none, how many bytes of pairs were laid.
-#[derive(Clone, Copy)]
-pub(crate) struct Found {
-    pub(crate) verdict: Verdict,
-    pub(crate) size: usize,
-}
-
-// Reads the lines of links, and lays their pairs into a buffer as long as it has room.
-pub(crate) fn read(s: &[u8], pairs: &mut [u8]) -> Found
-    requires { length pairs.old % 2 ≡ 0 }
-    ensures { Holds (lines_of s.now) pairs.old result.verdict result.size pairs.new }
+// Reads the lines of links, and lays their pairs on a page as long as it has room; 12 at the first bad line, where line 1 is the first.
+pub(crate) fn read(s: &[u8], pairs: &mut Page<'_>) -> Result<(), Refusal>
+    ensures same_buffer { pairs.new.bytes.ghost_name ≡ pairs.old.bytes.ghost_name }
+    ensures holds { (b : List ℕ) → page_of pairs.old ≡ page b 0 → length b % 2 ≡ 0 → Holds (lines_of s.now) b result (page_of pairs.new) }
 {
-    let mut at = 0;
+    let mut left = s;
     let mut i = 1;
-    let mut size = 0;
-    while at < s.len() {
-        let line = read_lines::two(slices::rest(s, at));
-        if line.size == 0 {
-            return Found {
-                verdict: Verdict::Fault(Refusal::Line(i)),
-                size,
-            };
-        }
-        let pair = [line.first as u8, line.second as u8];
-        size = laid::put(pairs, size, &pair);
-        at += line.size;
+    while !left.is_empty() {
+        let Some(line) = read_lines::two(left) else {
+            return Err(Refusal::Line(i));
+        };
+        pairs.put(&[line.first as u8, line.second as u8]);
+        left = slices::rest(left, line.size);
         i += 1;
     }
-    Found {
-        verdict: Verdict::Fine,
-        size,
-    }
+    Ok(())
 }

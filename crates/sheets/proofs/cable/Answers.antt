@@ -1,18 +1,19 @@
 -- `sheets::cable` meets its contract: the first line, the lines of links, and the links image of what they tell.
-use native.Mathlib.Omega.{arith}
+use Rattle.std.proofs.Common.{◌≡◌, Err, refl, sym, ◌∙◌, rules}
 use lib.Dec.{lit≤}
 use Rattle.results.proofs.Placed.{fault-writes}
 use Rattle.sheets.proofs.Cases.{cable_none, cable_bad, cable_writes}
 use Rattle.sheets.proofs.cable.Goals as goal
 
-pub returns-then-head-eq0 : goal.returns-then-head-eq0
-returns-then-head-eq0 c = fault-writes (cable_none _ c.one-head.ensures c.if-head-eq0.true)
+pub returns-in_default : goal.returns-in_default
+returns-in_default c = fault-writes (cable_none _ (sym c.in_default.is ∙ c.one.ensures))
 
-pub returns-in-Err : goal.returns-in-Err
-returns-in-Err c =
-    fault-writes (cable_bad _ c.one-head.ensures (omega arith) c.rest.ensures c.read-found.ensures c.in-Err.is)
+pub returns-in_err-read : goal.returns-in_err-read
+returns-in_err-read c =
+    let r : c.from_residual.result ≡ Err c.in_err-read.field-0.0 = search rules in
+    rw r (fault-writes (cable_bad _ c.in-Some.ensures c.rest.ensures (c.read.ensures.holds _ c.new-pairs.ensures.blank refl) c.in_err-read.was))
 
 pub returns : goal.returns
 returns c =
-    cable_writes _ c.one-head.ensures (omega arith) c.rest.ensures c.read-found.ensures c.in_default.is (lit≤ tt)
-    c.front.ensures c.write.ensures
+    cable_writes _ c.in-Some.ensures c.rest.ensures (c.read.ensures.holds _ c.new-pairs.ensures.blank refl) c.in_ok-read.was (lit≤ tt)
+    c.laid.ensures c.write.ensures

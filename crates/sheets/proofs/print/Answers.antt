@@ -1,19 +1,20 @@
--- `sheets::print` meets its contract. The invariant: with the lines of the pairs from p on behind it, what is laid is the sheet.
-use mathlib.Core.Path.{refl, ◌∙◌, ap}
-use native.Mathlib.Omega.{arith}
-use borrow.Author.Rules.{rules}
+-- `sheets::print` meets its contract: a pair more, and all pairs.
+use Rattle.std.proofs.Common.{sym, ◌∙◌, ap, rules}
+use Rattle.std.proofs.lemmas.List.{take_rest}
 use Rattle.laid.specs.Laid.{Page}
 use Rattle.sheets.specs.Held.{with_links}
-use Rattle.sheets.proofs.Printing.{printed_begin, printed_next, printed_end}
+use Rattle.sheets.proofs.Printing.{links_next, links_end}
 use Rattle.sheets.proofs.print.Goals as goal
 
-pub loop-p-init : goal.loop-p-init
-loop-p-init c = (printed_begin _ _, refl, refl)
+pub loop-left-preserved : goal.loop-left-preserved
+loop-left-preserved c =
+    let line = c.number_line-in-len2-up.ensures.laid (λ n. n) (λ x y e. e) in
+    record {
+      same_buffer = search rules;
+      rest = rw take_rest (links_next _ _ c.loop-left.left.now c.in-len2-up.len_at_least (rw c.from.ensures at line) ∙ c.loop-left.invariant.rest);
+    }
 
-pub loop-p-preserved : goal.loop-p-preserved
-loop-p-preserved c =
-    (printed_next c.loop-p.invariant.0 (omega arith) c.byte_at-in-loop-p.ensures c.byte_at.ensures c.number_line-at-in-loop-p.ensures, refl, search rules)
-
-pub returns : goal.returns
-returns c =
-    printed_end c.loop-p.invariant.0 (omega arith) ∙ ap (λ (q : Page). with_links q c.args.pairs.now) c.number_line-at.ensures
+pub returns-clause-laid : goal.returns-clause-laid
+returns-clause-laid c =
+    sym (links_end _ c.loop-left.left.now c.in_default.len_below) ∙ c.loop-left.invariant.rest
+    ∙ ap (λ (p : Page). with_links p c.args.pairs.now) (c.number_line.ensures.laid (λ n. n) (λ x y e. e))

@@ -1,13 +1,14 @@
--- `sheets::print` meets its contract. The invariant: with the lines of the pairs from p on behind it, what is laid is the sheet.
-use mathlib.Core.Path.{◌≡◌}
-use Prim.Native.Nat.{◌-◌, ◌/◌}
-use lib.ListN.{length}
-use Rattle.laid.specs.Laid.{page}
-use Rattle.sheets.proofs.Printing.{Printed}
+-- `sheets::print` meets its contract. The invariant: with the lines of the pairs that are left behind it, what is laid is the sheet.
+use Rattle.std.proofs.Common.{◌≡◌, length}
+use Rattle.laid.specs.Lent.{page_of}
+use Rattle.sheets.specs.Held.{with_links}
 use Rattle.sheets.proofs.print.Given as goal
 
-abbrev pub invariant-loop-p : goal.invariant-loop-p
-invariant-loop-p l = Printed (page l.initial.out l.initial.at) l.pairs (page l.out l.at) l.p × (l.p-end ≡ length l.pairs / 2) × (length l.out ≡ length l.initial.out)
+abbrev pub invariant-loop-left : goal.invariant-loop-left
+invariant-loop-left l = record {
+  same_buffer : l.out.bytes.ghost_name ≡ l.initial.out.bytes.ghost_name;
+  rest : with_links (page_of l.out) l.left ≡ with_links (page_of l.initial.out) l.initial.left;
+}
 
-abbrev pub decreases-loop-p : goal.decreases-loop-p
-decreases-loop-p l = l.p-end - l.p
+abbrev pub decreases-loop-left : goal.decreases-loop-left
+decreases-loop-left l = length l.left
