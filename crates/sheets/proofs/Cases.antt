@@ -1,7 +1,7 @@
 -- The verdict on a sheet and its links image, from its first line, the lines of links and the pairs that are held of them; and the sheet of a links image.
 use Rattle.std.specs.Prelude.{Some, None, Err, Ok}
 use Rattle.refusal.specs.Verdicts.{Verdict}
-use mathlib.Core.Path.{◌≡◌, sym, ◌∙◌, ap, ap₂}
+use mathlib.Core.Path.{◌≡◌, sym, ◌∙◌, ap}
 use mathlib.Core.List.{List, [], ◌∷◌}
 use Prim.Native.Nat.{ℕ, ◌*◌, ◌≤◌, ◌<◌}
 use lib.ListN.{length, get_or, take, drop}
@@ -9,11 +9,11 @@ use Rattle.nodes.specs.Limits.{max_links}
 use Rattle.refusal.specs.declared.Refusal.{Refusal}
 use Rattle.refusal.specs.declared.Refusal.TheVariants as refusal
 use Rattle.refusal.proofs.Verdicts.{then-fine, then-fault}
-use Rattle.cabling.specs.Cabling.{cabled}
+use Rattle.cabling.specs.Cabling.{Cabling, cabled}
 use Rattle.cabling.specs.Faults.{fault_of}
 use Rattle.cabling.proofs.Meaning.{fault-fine}
 use Rattle.cabling.proofs.Held.{fault-held, good-held}
-use Rattle.format.specs.Contents.{links_kinds, nodes_in, pairs_in}
+use Rattle.format.specs.Contents.{links_kinds}
 use Rattle.format.specs.Bytes.{AllBytes}
 use Rattle.laid.specs.Laid.{Page, page}
 use Rattle.laid.proofs.Pieces.{lays-front}
@@ -89,10 +89,9 @@ module _ (b : List ℕ) (byte : AllBytes b) {before : List ℕ} where
   sheet-refused e = record { writes = fault-writes e; bytes = byte }
 
   -- its lines were laid into a blank buffer with room, and their bytes placed
-  pub sheet-writes : {n : ℕ} {pairs text after : List ℕ} {p : Page} {answer : Written} (blank : List ℕ) → links_fault b ≡ Ok tt → n ≡ nodes_in b → pairs ≡ pairs_in b
-      → longest_sheet ≤ length blank → p ≡ with_sheet (page blank 0) (cabled n pairs) → text ≡ take p.at p.bytes
+  pub sheet-writes : {c : Cabling} {text after : List ℕ} {p : Page} {answer : Written} (blank : List ℕ) → links_fault b ≡ Ok tt → c ≡ cabling_in b
+      → longest_sheet ≤ length blank → p ≡ with_sheet (page blank 0) c → text ≡ take p.at p.bytes
       → Writes (Ok tt) text before answer after → Sheets b before answer after
-  sheet-writes {n} {pairs} blank e en ep room laid front w =
-      let c : cabled n pairs ≡ cabling_in b = ap₂ cabled en ep in
-      let l = sheet-lays (cabling-good b (links-fine b e).1).0 room (laid ∙ ap (with_sheet (page blank 0)) c) in
+  sheet-writes blank e is room laid front w =
+      let l = sheet-lays (cabling-good b (links-fine b e).1).0 room (laid ∙ ap (with_sheet (page blank 0)) is) in
       record { writes = fine-writes e (front ∙ (lays-front l).0) w; bytes = byte }

@@ -9,6 +9,7 @@ ghost use Rattle.sheets.specs.Held.{with_sheet};
 
 mod links; // links.rt: the lines of links, read
 
+use cabling::Cabling;
 use laid::Page;
 use nodes::MAX_LINKS;
 use refusal::Refusal;
@@ -32,16 +33,20 @@ pub fn cable(sheet: &[u8], buffer: &mut [u8]) -> Result<usize, Refusal>
     let mut held = [0u8; HELD];
     let mut pairs = Page::new(&mut held);
     links::read(slices::rest(sheet, head.size), &mut pairs)?;
-    writing::write(head.first, pairs.laid(), false, buffer)
+    let cabling = Cabling {
+        nodes: head.first,
+        pairs: pairs.laid(),
+    };
+    writing::write(&cabling, false, buffer)
 }
 
 // The lines of a cabling, laid behind what is there.
-fn print(n: usize, pairs: &[u8], out: &mut Page<'_>)
+fn print(cabling: &Cabling, out: &mut Page<'_>)
     ensures same_buffer { out.new.bytes.ghost_name ≡ out.old.bytes.ghost_name }
-    ensures laid { page_of out.new ≡ with_sheet (page_of out.old) (cabled n pairs.now) }
+    ensures laid { page_of out.new ≡ with_sheet (page_of out.old) (cabled cabling.now.nodes cabling.now.pairs.now) }
 {
-    lines::number_line::<u8>(out, n, &[]);
-    let mut left = pairs;
+    lines::number_line::<u8>(out, cabling.nodes, &[]);
+    let mut left = cabling.pairs;
     while let [a, b, rest @ ..] = left {
         lines::number_line(out, usize::from(*a), &[*b]);
         left = rest;
@@ -55,6 +60,6 @@ pub fn sheet(image: &[u8], buffer: &mut [u8]) -> Result<usize, Refusal>
     image::links_verdict(image)?;
     let mut text = [0u8; LONGEST];
     let mut out = Page::new(&mut text);
-    print(format::nodes_in(image), format::pairs_in(image), &mut out);
+    print(&image::cabling_in(image), &mut out);
     results::place(out.laid(), buffer)
 }

@@ -17,4 +17,4 @@ loop-left-preserved c =
 pub returns-clause-laid : goal.returns-clause-laid
 returns-clause-laid c =
     sym (links_end _ c.loop-left.left.now c.in_default.len_below) ∙ c.loop-left.invariant.rest
-    ∙ ap (λ (p : Page). with_links p c.args.pairs.now) (c.number_line.ensures.laid (λ n. n) (λ x y e. e))
+    ∙ ap (λ (p : Page). with_links p c.args.cabling.now.pairs.now) (c.number_line.ensures.laid (λ n. n) (λ x y e. e))

@@ -12,4 +12,4 @@ returns-in_err-links_verdict c =
 pub returns : goal.returns
 returns c =
     sheet-writes _ (λ i. (c.type_inv.image i).fits) _ (sym c.links_verdict.ensures ∙ c.in_ok-links_verdict.was)
-    c.nodes_in.ensures c.pairs_in.ensures (lit≤ tt) (rw c.new-out.ensures.blank at c.print.ensures.laid) c.laid.ensures c.place.ensures
+    c.cabling_in.ensures (lit≤ tt) (rw c.new-out.ensures.blank at c.print.ensures.laid) c.laid.ensures c.place.ensures
