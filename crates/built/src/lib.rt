@@ -5,17 +5,16 @@ ghost use Rattle.results.specs.Written.{Writes, room_for};
 ghost use Rattle.built.specs.Builds.{longest_build, output_of};
 
 use refusal::Refusal;
-use results::Written;
 
 // How much it writes at the most.
 pub const LONGEST: usize = image::LONGEST;
 
 // What is written for this input, or 9 and nothing written where the longest finds no room.
-pub fn output(input: &[u8], out: &mut [u8]) -> Written
+pub fn output(input: &[u8], out: &mut [u8]) -> Result<usize, Refusal>
     ensures { Writes (room_for longest_build out.old) (output_of input.now) out.old result out.new }
 {
     if out.len() < LONGEST {
-        return Written::NotWritten(Refusal::Short);
+        return Err(Refusal::Short);
     }
     let written = writing::build(input, out);
     lines::told(written, out)
