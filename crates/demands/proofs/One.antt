@@ -21,7 +21,7 @@ use Rattle.cabling.specs.Verdicts.{Means}
 use Rattle.cabling.proofs.Meaning.{fault_means}
 use Rattle.format.specs.Contents.{links_kinds, full_kinds, nodes_in, pairs_in}
 use Rattle.contents.proofs.Determined.{step_determined}
-use Rattle.results.specs.Written.{written_of, Writes}
+use Rattle.results.specs.Written.{Written, written_of, Writes}
 use Rattle.results.proofs.Meaning.{written-fault, written-short, refused_in_room, refused-untouched}
 use Rattle.results.proofs.Determined.{writes_determined}
 use Rattle.image.specs.Image.{image_of, kinds_of, cabling_in}
@@ -66,7 +66,7 @@ module _ {Of : Verdict → Type 0} (bytes : List ℕ) (room : ℕ) where
           bcase (leb (length bytes) room) (λ t. fine-fault refl (refused_in_room bytes room (Ok tt) r (λ f. leb-true _ _ t) e))
           (λ t.
           let l = leb-false _ _ t in
-          let q : Short ≡ r = let f = (written-short bytes room).1 l in cc in
+          let q : Short ≡ r = let f : ◌≡◌ {A = Written} (Err r) (Err Short) = sym e ∙ (written-short bytes room).1 l in cc in
           rw (← q) (short ((m (Ok tt)).0 refl) l))
 
       back : (r : Refusal) → RefusalRows Of (length bytes) room r → written_of v bytes room ≡ Err r
