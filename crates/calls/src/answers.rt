@@ -1,8 +1,8 @@
 // What is printed: words, and fields one space apart, each line closed by a line feed.
 use format::Entry;
+use hops::Hop;
 use messages::Answer;
 use refusal::Refusal;
-use results::Written;
 
 pub fn word(w: &[u8]) {
     io::write_all(1, w);
@@ -18,67 +18,67 @@ pub fn field(n: usize) {
     number(n);
 }
 
-// A further field for each byte, and the line's end.
-pub fn fields(bytes: &[u8]) {
-    for i in 0..bytes.len() {
-        field(bytes[i] as usize);
+// A line of a word and a field for each number.
+pub fn line<N: Copy + Into<usize>>(name: &[u8], numbers: &[N]) {
+    word(name);
+    for &n in numbers {
+        field(n.into());
     }
-    word(b"\n");
-}
-
-// A line of a word and a number.
-pub fn one(name: &[u8], n: usize) {
-    word(name);
-    field(n);
-    word(b"\n");
-}
-
-// A line of a word and two numbers.
-pub fn two(name: &[u8], m: usize, n: usize) {
-    word(name);
-    field(m);
-    field(n);
     word(b"\n");
 }
 
 pub fn refused(r: Refusal) {
-    two(b"refused", refusal::number(r), refusal::place(r));
+    line(b"refused", &[r.number(), r.place()]);
 }
 
 // The line of a contents entry.
-pub fn entry(e: Entry) {
-    match e {
-        Entry::At {
-            kind,
-            second,
-            offset,
-            length,
-        } => {
-            word(b"entry");
-            field(kind as usize);
-            field(second as usize);
-            field(offset);
-            field(length);
-            word(b"\n");
-        }
-        Entry::Nothing => word(b"none\n"),
+pub fn entry(found: Option<Entry>) {
+    match found {
+        Some(e) => line(
+            b"entry",
+            &[
+                usize::from(e.kind),
+                usize::from(e.second),
+                e.offset,
+                e.length,
+            ],
+        ),
+        None => word(b"none\n"),
+    }
+}
+
+// The line of a row; the empty one is refusal 10.
+pub fn row(row: &[u8]) {
+    if row.is_empty() {
+        refused(Refusal::Unknown(0));
+    } else {
+        line(b"row", row);
+    }
+}
+
+// The line of a hop.
+pub fn hop(answer: Result<Option<Hop>, Refusal>) {
+    match answer {
+        Ok(Some(hop)) => line(b"hop", &[hop.node, hop.class]),
+        Ok(None) => word(b"none\n"),
+        Err(r) => refused(r),
     }
 }
 
 // The line of a call that writes.
-pub fn written(name: &[u8], w: Written) {
-    match w {
-        Written::Bytes(n) => one(name, n),
-        Written::NotWritten(r) => refused(r),
+pub fn written(name: &[u8], answer: Result<usize, Refusal>) {
+    match answer {
+        Ok(size) => line(name, &[size]),
+        Err(r) => refused(r),
     }
 }
 
 // The line of a move.
-pub fn step(a: Answer) {
-    match a {
+pub fn step(answer: Answer) {
+    match answer {
         Answer::Already => word(b"already\n"),
         Answer::Moved => word(b"moved\n"),
-        Answer::Blocked(by) => one(b"blocked", by),
+        Answer::Blocked(by) => line(b"blocked", &[by]),
         Answer::Delivered => word(b"delivered\n"),
         Answer::Refused(r) => refused(r),
     }
@@ -87,6 +87,5 @@ pub fn step(a: Answer) {
 // The line of a drain's move: where it looked first, and the message that moved.
 pub fn turn(look: usize, message: usize) {
     number(look);
-    field(message);
-    word(b"\n");
+    line(b"", &[message]);
 }

@@ -1,41 +1,88 @@
-// Arguments, taken from the front of what is left of the input. What is missing reads as 0 or as nothing, so whether all arguments are there is seen
-// from the length of what is left behind the last of variable length.
-ghost use Rattle.std.specs.Prelude.{◌≤◌};
+// Arguments, taken one by one from the front of what is left of the input: none where one is missing, or bytes are left behind the last.
+ghost use Rattle.std.specs.Prelude.{◌+◌, ◌<◌, ◌≤◌, length, OnSome};
 
-// The first bytes, nothing where there are fewer.
-pub fn front(s: &[u8], size: usize) -> &[u8] {
-    if size <= s.len() {
-        &s[0..size]
-    } else {
-        &s[..0]
+#[derive(Clone, Copy)]
+pub struct Arguments<'a> {
+    left: &'a [u8],
+}
+
+impl<'a> Arguments<'a> {
+    pub fn new(left: &'a [u8]) -> Arguments<'a> {
+        Arguments { left }
     }
-}
 
-// What stands behind the first bytes, nothing where there are fewer.
-pub fn behind(s: &[u8], size: usize) -> &[u8] {
-    if size <= s.len() { &s[size..] } else { &s[..0] }
-}
+    // So many bytes.
+    fn front(&mut self, size: usize) -> Option<&'a [u8]>
+        ensures { OnSome result (length self.new.left.now ≤ length self.old.left.now) }
+    {
+        let (front, left) = self.left.split_at_checked(size)?;
+        self.left = left;
+        Some(front)
+    }
 
-// The bytes of an argument that says its length first, nothing where there are fewer. A length has 32 bits, since RULES 9.1 speaks of images over 65,535 bytes;
-// what is read holds 131,072.
-pub fn bytes(args: &[u8]) -> &[u8] {
-    front(behind(args, 4), double(args, 0))
-}
+    // As many bytes as the array holds.
+    fn array<const N: usize>(&mut self) -> Option<[u8; N]>
+        ensures { OnSome result (length self.new.left.now + N ≤ length self.old.left.now) }
+    {
+        let (array, left) = self.left.split_first_chunk()?;
+        self.left = left;
+        Some(*array)
+    }
 
-// What stands behind such an argument.
-pub fn after_bytes(args: &[u8]) -> &[u8] {
-    behind(behind(args, 4), double(args, 0))
-}
+    // A number of 16 bits, low byte first, as it is and to reckon with.
+    pub fn half(&mut self) -> Option<u16>
+        ensures { OnSome result (length self.new.left.now < length self.old.left.now) }
+    {
+        Some(u16::from_le_bytes(self.array()?))
+    }
 
-// A number of 32 bits, low byte first.
-pub fn double(args: &[u8], at: usize) -> usize
-    ensures { result ≤ 4294967295 }
-{
-    let low = format::number_at(args, at);
-    low + format::HALF_WORD * format::number_at(behind(args, 2), at)
-}
+    pub fn number(&mut self) -> Option<usize>
+        ensures { OnSome result (length self.new.left.now < length self.old.left.now) }
+    {
+        Some(usize::from(self.half()?))
+    }
 
-// A number of 64 bits, low byte first.
-pub fn long(args: &[u8]) -> usize {
-    double(args, 0) + 4294967296 * double(args, 4)
+    // A number of 32 bits, low byte first.
+    pub fn double(&mut self) -> Option<u32>
+        ensures { OnSome result (length self.new.left.now < length self.old.left.now) }
+    {
+        Some(u32::from_le_bytes(self.array()?))
+    }
+
+    // A number of 64 bits, low byte first.
+    pub fn long(&mut self) -> Option<usize> {
+        Some(u64::from_le_bytes(self.array()?) as usize)
+    }
+
+    // Bytes that say their length first. A length has 32 bits, since RULES 9.1 speaks of images over 65,535 bytes; what is read holds 131,072.
+    pub fn bytes(&mut self) -> Option<&'a [u8]>
+        ensures { OnSome result (length self.new.left.now < length self.old.left.now) }
+    {
+        let size = self.double()?;
+        self.front(size as usize)
+    }
+
+    // Bytes whose length has 16 bits.
+    pub fn short_bytes(&mut self) -> Option<&'a [u8]> {
+        let size = self.number()?;
+        self.front(size)
+    }
+
+    // The bytes of numbers of 16 bits that say first how many they are.
+    pub fn numbers(&mut self) -> Option<&'a [u8]>
+        ensures { OnSome result (length self.new.left.now < length self.old.left.now) }
+    {
+        let count = self.half()?;
+        self.front(2 * usize::from(count))
+    }
+
+    // All that is left.
+    pub fn rest(self) -> &'a [u8] {
+        self.left
+    }
+
+    // Nothing is left.
+    pub fn end(self) -> Option<()> {
+        if self.left.is_empty() { Some(()) } else { None }
+    }
 }

@@ -2,23 +2,19 @@
 // library's calls are compared with the second program, whose README.md says what is read and printed.
 #![tactic(auto)]
 
-ghost use Rattle.std.specs.Prelude.{◌≡◌, length};
-
 mod answers; // answers.rt: what is printed
 mod arguments; // arguments.rt: the arguments, taken from the input's front
 mod buffers; // buffers.rt: route, read, write, build, cable and sheet, with a lent buffer
 mod machines; // machines.rt: steps, moves and trace, of the drain machine
 mod tables; // tables.rt: entry, walk, row and hop
 
-// As much as is read.
-fn room() -> [u8; 131072]
-    ensures { 131072 ≡ length result }
-{
-    [0; 131072]
-}
+use arguments::Arguments;
 
-// Makes the call of that number. False: there is no such call, or these are not its arguments.
-fn call(selector: u8, args: &[u8]) -> bool {
+// As much as is read.
+const ROOM: usize = 131072;
+
+// Makes the call of that number: none where there is no such call, or these are not its arguments.
+fn call(selector: u8, args: Arguments) -> Option<()> {
     match selector {
         0 => tables::entry(args),
         1 => tables::walk(args),
@@ -33,21 +29,19 @@ fn call(selector: u8, args: &[u8]) -> bool {
         10 => buffers::cable(args),
         11 => buffers::sheet(args),
         12 => machines::moves(args),
-        _ => false,
+        _ => None,
     }
 }
 
-fn answered(input: &[u8]) -> bool {
-    if input.len() == 0 {
-        return false;
-    }
-    call(input[0], &input[1..])
+fn answered(input: &[u8]) -> Option<()> {
+    let (selector, args) = input.split_first()?;
+    call(*selector, Arguments::new(args))
 }
 
 fn main() {
-    let mut input = room();
+    let mut input = [0u8; ROOM];
     let n = io::read_full(0, &mut input);
-    if !answered(&input[..n]) {
+    if answered(&input[..n]).is_none() {
         answers::word(b"bad call\n");
     }
 }

@@ -1,10 +1,6 @@
--- `calls::whole` is safe and ends: each round has bytes.
-use Prim.Native.Nat.{◌≤◌, ◌-◌}
-use lib.ListN.{length}
+-- `calls::whole` ends: less is left after each round.
+use Rattle.std.proofs.Common.{length}
 use Rattle.calls.proofs.machines.whole.Given as goal
 
-abbrev pub invariant-loop-at : goal.invariant-loop-at
-invariant-loop-at l = l.at ≤ length l.args
-
-abbrev pub decreases-loop-at : goal.decreases-loop-at
-decreases-loop-at l = length l.args - l.at
+abbrev pub decreases-loop : goal.decreases-loop
+decreases-loop l = length l.args.left.now
