@@ -7,6 +7,7 @@ pub mod Decide
 pub mod Sets
 pub mod Words
 pub mod Lists
+pub mod Ranges
 pub mod Slices
 pub mod Grid
 pub mod Filling

@@ -112,14 +112,6 @@ pub fronts_within : (labels free falling : List ℕ) (n node class destination :
 unfolding hop_within
 fronts_within labels free falling n node class destination e p q r h = rw (← e) (rw (← p, ← q, ← r) h)
 
--- ---- by its variant
-
--- an answer that is no hop names no node
-pub other_none : (a : HopAnswer) → ((hop : Hop) → a ≡ Ok (Some hop) → ⊥) → has_next a ≡ false
-other_none (Ok (Some hop)) h = absurd (h hop refl)
-other_none (Ok None) h = refl
-other_none (Err r) h = refl
-
 -- ---- a walk by its answers
 
 module _ (ask : ℕ → ℕ → HopAnswer) (t : ℕ) where

@@ -33,6 +33,7 @@ fn known(free: &[u8], falling: &[u8], n: usize, node: usize, class: usize) -> bo
 }
 
 // The row of a node in a class: that part of the table that holds it. The empty part is refusal 10.
+// No method of `Tables`: docs/RULES.md (7.5) lends row no labels.
 pub fn row<'a>(free: &'a [u8], falling: &'a [u8], n: usize, node: usize, class: usize) -> &'a [u8]
     ensures { result.now ≡ row_in free.now falling.now n node class }
 {

@@ -39,6 +39,7 @@ fn left(h: u16, holder: u16) -> u16
 pub fn release(holders: &mut [u16], span: usize, holder: u16)
     ensures { holders.new ≡ given_back span holder holders.old }
 {
+    // By the index: a loop over elements would have to split the slice at the bound, which is no plainer.
     for c in 0..span.min(holders.len()) {
         holders[c] = left(holders[c], holder);
     }

@@ -155,12 +155,7 @@ pub fn is_ready(wants: &[u16], delivered: &[u8], holders: &[u16], message: usize
 pub fn all_delivered_in(messages: usize, delivered: &[u8]) -> bool
     ensures { result ≡ all (min messages max_messages) (λ m. non (same (get_or delivered.now m 0) 0)) }
 {
-    for m in 0..few(messages) {
-        if !marked(delivered, m) {
-            return false;
-        }
-    }
-    true
+    (0..few(messages)).all(|m| marked(delivered, m))
 }
 
 // At most 256 messages.

@@ -11,7 +11,7 @@ fn picked(term: u32, left: u32) -> u32
     if left % 2 == 1 { term } else { 0 }
 }
 
-// The product modulo 2 ^ 32, by doubling and the supplied wrapping sum.
+// The product modulo 2 ^ 32, by doubling and the supplied wrapping sum: docs/RULES.md (12.1) asks for that form.
 pub fn wrapping_mul(a: u32, b: u32) -> u32
     ensures { result ≡ a * b % 2 ^ 32 }
 {
@@ -19,8 +19,8 @@ pub fn wrapping_mul(a: u32, b: u32) -> u32
     let mut term = a;
     let mut left = b;
     while left > 0 {
-        sum = std::num::wrapping_add_u32(sum, picked(term, left));
-        term = std::num::wrapping_add_u32(term, term);
+        sum = sum.wrapping_add(picked(term, left));
+        term = term.wrapping_add(term);
         left = left / 2;
     }
     sum
@@ -30,7 +30,7 @@ pub fn wrapping_mul(a: u32, b: u32) -> u32
 pub fn next_seed(seed: u32) -> u32
     ensures { result ≡ next_seed seed }
 {
-    std::num::wrapping_add_u32(wrapping_mul(1664525, seed), 1013904223)
+    wrapping_mul(1664525, seed).wrapping_add(1013904223)
 }
 
 // Where to look first; 0 where there is no message.

@@ -1,25 +1,12 @@
--- `machine::all_delivered_in` meets its contract. The invariant: every message passed is delivered.
-use mathlib.Core.Path.{sym, ◌∙◌}
-use native.Mathlib.Omega.{arith}
-use borrow.Author.Count.{below_none, below_more}
-use Rattle.finite.proofs.Truth.{no_tf, refute}
-use Rattle.finite.proofs.Search.{every_all, all_every}
+-- `machine::all_delivered_in` meets its contract: the test is the library's, of each message's mark.
+use Rattle.std.proofs.Common.{ℕ, Bool, get_or, refl, rules, arith, ◌∙◌}
+use Rattle.std.proofs.lemmas.Iterator.{YieldsList-from_range}
+use Rattle.std.proofs.lemmas.Iterator.Search.{all_from_yields_List}
+use Rattle.finite.specs.Truth.{non, same}
+use Rattle.finite.proofs.Ranges.{all-range}
 use Rattle.machine.proofs.all_delivered_in.Goals as goal
 
-pub loop-m-init : goal.loop-m-init
-loop-m-init c = (below_none _, omega arith)
-
-pub returns-then-not-marked : goal.returns-then-not-marked
-returns-then-not-marked c = sym (refute _ (λ t. no_tf (all_every _ _ t _ (omega arith)) (sym c.marked.ensures ∙ c.if-not-marked.true)))
-
-pub overflow_step-m : goal.overflow_step-m
-overflow_step-m c = omega arith
-
-pub loop-m-smaller : goal.loop-m-smaller
-loop-m-smaller c = omega arith
-
-pub loop-m-preserved : goal.loop-m-preserved
-loop-m-preserved c = (below_more _ _ c.loop-m.invariant.0 (sym c.marked.ensures ∙ c.if-not-marked.false), omega arith)
-
 pub returns : goal.returns
-returns c = sym (every_all _ _ (λ q l. c.loop-m.invariant.0 q (omega arith)))
+returns c =
+    let p : ℕ → Bool = λ m. non (same (get_or c.args.delivered.now m 0) 0) in
+    rw (← c.few.ensures) (all_from_yields_List p _ _ _ c.all.ensures.ran (YieldsList-from_range 0 _ c.few.result refl (omega arith)) (λ x b q k. (search rules, search rules)) ∙ all-range p _)

@@ -1,5 +1,5 @@
 -- `seeds::wrapping_mul` meets its contract. The invariant: the sum and what is left of the product make the whole, modulo 2 ^ 32.
-use Rattle.std.proofs.Common.{◌≡◌, ℕ, ◌+◌, ◌*◌, ◌/◌, ◌%◌, ◌^◌, sym, ap, ◌∙◌, ap₂, add-zero, mod-eq_of_lt, mul-zero, zero-add, arith}
+use Rattle.std.proofs.Common.{◌≡◌, ℕ, ◌+◌, ◌*◌, ◌/◌, ◌%◌, ◌^◌, refl, sym, ap, ◌∙◌, ap₂, add-zero, mod-eq_of_lt, mul-zero, zero-add, arith}
 use Rattle.seeds.proofs.Doubling.{doubling}
 use Rattle.seeds.proofs.wrapping_mul.Goals as goal
 
@@ -12,7 +12,7 @@ loop-left-smaller c = omega arith
 pub loop-left-preserved : goal.loop-left-preserved
 loop-left-preserved c = (
   ap₂ (λ (x y : ℕ). (x + y * (c.loop-left.left / 2)) % 2 ^ 32)
-      (c.wrapping_add_u32-sum.ensures.value ∙ ap (λ (x : ℕ). (c.loop-left.sum + x) % 2 ^ 32) c.picked.ensures) c.wrapping_add_u32-term.ensures.value
+      (ap (λ (x : ℕ). (c.loop-left.sum + x) % 2 ^ 32) c.picked-sum.ensures) refl
       ∙ doubling (2 ^ 32) c.loop-left.sum c.loop-left.term c.loop-left.left ∙ c.loop-left.invariant.0,
   omega arith,
 )

@@ -9,31 +9,13 @@ use Rattle.machine.proofs.InPlace.{left_below, left-from}
 use Rattle.machine.proofs.channels.release.Goals as goal
 
 pub loop-c-init : goal.loop-c-init
-loop-c-init c = (filling_none _ _, refl, omega arith)
-
-pub offset_bounds-holders-c : goal.offset_bounds-holders-c
-offset_bounds-holders-c c = omega arith
-
-pub bounds-holders-c : goal.bounds-holders-c
-bounds-holders-c c = omega arith
-
-pub offset_bounds-holders-c-in-loop-c : goal.offset_bounds-holders-c-in-loop-c
-offset_bounds-holders-c-in-loop-c c = omega arith
-
-pub bounds-holders-c-in-loop-c : goal.bounds-holders-c-in-loop-c
-bounds-holders-c-in-loop-c c = omega arith
-
-pub overflow_step-c : goal.overflow_step-c
-overflow_step-c c = omega arith
-
-pub loop-c-smaller : goal.loop-c-smaller
-loop-c-smaller c = omega arith
+loop-c-init c = (filling_none _ _, refl)
 
 pub loop-c-preserved : goal.loop-c-preserved
 loop-c-preserved c =
     let inv = c.loop-c.invariant in
     let more = filling_more _ inv.0 (omega arith) (c.left.ensures ∙ ap (released _) (inv.0.ahead _ (le_refl _)) ∙ sym (left_below _ _ _ _ (omega arith))) in
-    (more, more.size, omega arith)
+    (more, more.size)
 
 pub shape_of-holders : goal.shape_of-holders
 shape_of-holders c = c.loop-c.invariant.1
