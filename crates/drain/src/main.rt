@@ -3,6 +3,7 @@
 #![tactic(auto)]
 
 // What stands behind the first 65,536 bytes is not read.
+// The five programs share these lines: a public function that takes the call would have a `requires` (RULES 12.2), a trait wants a type and an impl for each.
 fn main() {
     let mut input = io::large_buffer();
     let n = io::read_full(0, &mut input);

@@ -7,7 +7,6 @@ ghost use Rattle.sheets.specs.Sheet.{longest_sheet};
 ghost use Rattle.sheeted.specs.Prints.{cable_output, sheet_output};
 
 use refusal::Refusal;
-use results::Written;
 
 // How much they write at the most.
 pub const LONGEST_CABLE: usize = image::LONGEST_LINKS;
@@ -15,22 +14,22 @@ pub const LONGEST_CABLE: usize = image::LONGEST_LINKS;
 pub const LONGEST_SHEET: usize = sheets::LONGEST;
 
 // What Cable writes for this input, or 9 and nothing written where the longest finds no room.
-pub fn cable(input: &[u8], out: &mut [u8]) -> Written
+pub fn cable(input: &[u8], out: &mut [u8]) -> Result<usize, Refusal>
     ensures { Writes (room_for longest_links out.old) (cable_output input.now) out.old result out.new }
 {
     if out.len() < LONGEST_CABLE {
-        return Written::NotWritten(Refusal::Short);
+        return Err(Refusal::Short);
     }
     let written = sheets::cable(input, out);
     lines::told(written, out)
 }
 
-// What Sheet writes for this input.
-pub fn sheet(input: &[u8], out: &mut [u8]) -> Written
+// What Sheet writes for this input. What a function that takes the call must say of it, by `F.post`, is longer than the three lines that stand twice.
+pub fn sheet(input: &[u8], out: &mut [u8]) -> Result<usize, Refusal>
     ensures { Writes (room_for longest_sheet out.old) (sheet_output input.now) out.old result out.new }
 {
     if out.len() < LONGEST_SHEET {
-        return Written::NotWritten(Refusal::Short);
+        return Err(Refusal::Short);
     }
     let written = sheets::sheet(input, out);
     lines::told(written, out)
