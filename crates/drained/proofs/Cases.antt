@@ -1,7 +1,7 @@
 -- What drain prints, case by case.
 use Rattle.std.specs.Prelude.{Err, Ok}
 use mathlib.Core.Path.{◌≡◌, ◌∙◌, ap}
-use mathlib.Core.List.{List, [], ◌∷◌}
+use mathlib.Core.List.{List}
 use Prim.Native.Nat.{ℕ, ◌+◌, ◌*◌, ◌-◌, ◌≤◌, ◌<◌}
 use native.Mathlib.Nat.{le_refl}
 use native.Mathlib.Omega.{arith}
@@ -9,25 +9,21 @@ use lib.Dec.{lit≤}
 use lib.ListN.{length, take, drop}
 use borrow.Author.Tests.{le-leb, lt-leb}
 use Rattle.finite.proofs.Slices.{part-rest}
-use Rattle.refusal.specs.declared.Refusal.{Refusal}
 use Rattle.refusal.specs.declared.Refusal.TheVariants.{Contents}
-use Rattle.laid.specs.Laid.{Page, page}
-use Rattle.laid.proofs.Pieces.{lays_as}
+use Rattle.laid.specs.Laid.{Page}
+use Rattle.laid.specs.Lays.{Lays}
+use Rattle.results.proofs.Placed.{fine-writes, lays-writes}
 use Rattle.results.specs.Written.{Writes, room_for, Written}
 use Rattle.format.specs.Limits.{half_word}
 use Rattle.format.specs.Contents.{number_at}
-use Rattle.lines.specs.Lines.{with_line, refusal_line, longest_refusal}
-use Rattle.lines.proofs.Whole.{lays-line}
-use Rattle.lines.proofs.Printed.{lays-prints, fault-prints}
+use Rattle.lines.specs.Lines.{Told}
+use Rattle.lines.proofs.Whole.{line-bound}
+use Rattle.lines.proofs.Printed.{call_prints}
 use Rattle.messages.specs.declared.Record.{Record}
 use Rattle.start.specs.Start.{start_fault}
 use Rattle.draining.specs.declared.Drained.{Drained}
-use Rattle.draining.specs.Drained.{end_of, drain_of}
-use Rattle.drained.specs.Drains.{image_end, image_in, seed_in, list_in, input_fault, drained_word, drained_line, longest_drain, output_of}
-
--- the record at the end of the drain that an input asks for
-abbrev pub end_in : List ℕ → Record
-end_in input = end_of (image_in input) (list_in input) (seed_in input)
+use Rattle.draining.specs.Drained.{drain_of}
+use Rattle.drained.specs.Drains.{image_end, image_in, seed_in, list_in, input_fault, drained_word, drained_line, end_in, longest_drain, output_of}
 
 module _ (input : List ℕ) where
   pub fault-short : length input < image_end input + 4 → input_fault input ≡ Err Contents
@@ -38,15 +34,14 @@ module _ (input : List ℕ) where
   unfolding input_fault
   fault-start whole = rw (le-leb _ _ whole, input_fault)
 
-  pub drain-refused : {before after : List ℕ} {r : Refusal} {answer : Written} → longest_drain ≤ length before → input_fault input ≡ Err r
-      → Writes (room_for longest_refusal before) (refusal_line r) before answer after → Writes (room_for longest_drain before) (output_of input) before answer after
-  unfolding output_of
-  drain-refused room e w = fault-prints (drained_line (end_in input)) room e (lit≤ tt) w
+  pub drain-writes : {before : List ℕ} {p : Page} {r : Record} → input_fault input ≡ Ok tt → r ≡ end_in input → Lays before p (drained_line r)
+      → Writes (input_fault input) (drained_line (end_in input)) before (Ok p.at) p.bytes
+  drain-writes fine e l = fine-writes fine (ap drained_line e) (lays-writes l)
 
-  pub drain-prints : {before : List ℕ} {p : Page} {r : Record} → longest_drain ≤ length before → input_fault input ≡ Ok tt → r ≡ end_in input
-      → p ≡ with_line (page before 0) drained_word (r.messages ∷ r.moves ∷ []) → Writes (room_for longest_drain before) (output_of input) before (Ok p.at) p.bytes
+  pub drain_prints : {before after last : List ℕ} {x answer : Written} → longest_drain ≤ length before
+      → Writes (input_fault input) (drained_line (end_in input)) before x after → Told x after answer last → Writes (room_for longest_drain before) (output_of input) before answer last
   unfolding output_of
-  drain-prints room v e l = lays-prints (drained_line (end_in input)) room v (lays_as (lays-line drained_word _ l room) (ap drained_line e))
+  drain_prints {x = x} room w t = call_prints (drained_line (end_in input)) x room (lit≤ tt) (λ e. line-bound drained_word _) w t
 
 -- a drain of the parts of the input
 pub parts_drained : (input : List ℕ) (old : Record) {x : Drained} {n seed : ℕ} → n ≡ number_at input 0

@@ -11,8 +11,8 @@ use Rattle.messages.specs.Runs.{messages_in, all_moves}
 use Rattle.start.specs.Start.{start_fault}
 use Rattle.draining.specs.Drained.{sum_of}
 use Rattle.draining.proofs.Meaning.{end-messages, end-moves}
-use Rattle.drained.specs.Drains.{image_end, image_in, seed_in, list_in, drained_word, drained_line, output_of}
-use Rattle.drained.proofs.Cases.{end_in, fault-start}
+use Rattle.drained.specs.Drains.{image_end, image_in, seed_in, list_in, drained_word, drained_line, end_in, output_of}
+use Rattle.drained.proofs.Cases.{fault-start}
 
 module _ (input : List ℕ) (whole : image_end input + 4 ≤ length input) (fine : start_fault (image_in input) (list_in input) ≡ Ok tt) where
   pub prints : output_of input ≡ line_of drained_word (messages_in (list_in input) ∷ sum_of (image_in input) (list_in input) ∷ [])

@@ -39,5 +39,9 @@ drained_line r = line_of drained_word (r.messages ∷ r.moves ∷ [])
 abbrev pub longest_drain : ℕ
 longest_drain = 7 + 2 * (1 + 21) + 1
 
+-- the record at the end of the drain that an input asks for
+abbrev pub end_in : List ℕ → Record
+end_in input = end_of (image_in input) (list_in input) (seed_in input)
+
 unfoldable pub output_of : List ℕ → List ℕ
-output_of input = or_refused (input_fault input) (drained_line (end_of (image_in input) (list_in input) (seed_in input)))
+output_of input = or_refused (input_fault input) (drained_line (end_in input))

@@ -2,15 +2,15 @@
 // every message is delivered, or the line of a refusal.
 #![tactic(auto)]
 
-ghost use Rattle.std.specs.Prelude.{◌≡◌, ◌+◌, ◌*◌, ◌<◌};
+ghost use Rattle.std.specs.Prelude.{◌≡◌, ◌+◌, ◌*◌, ◌≤◌, ◌<◌, length};
 ghost use Rattle.format.specs.Limits.{half_word};
 ghost use Rattle.format.specs.Contents.{number_at};
 ghost use Rattle.results.specs.Written.{Writes, room_for};
-ghost use Rattle.drained.specs.Drains.{longest_drain, output_of};
+ghost use Rattle.drained.specs.Drains.{input_fault, drained_line, end_in, longest_drain, output_of};
 
 use format::HALF_WORD;
-use refusal::{Refusal, Verdict};
-use results::Written;
+use laid::Page;
+use refusal::Refusal;
 
 // How much it prints at the most.
 pub const LONGEST: usize = 7 + 2 * (1 + 21) + 1;
@@ -25,25 +25,32 @@ fn seed_at(input: &[u8], at: usize) -> u32
     (low + HALF_WORD * high) as u32
 }
 
-// What is printed for this input, or 9 and nothing printed where the longest finds no room.
-pub fn output(input: &[u8], out: &mut [u8]) -> Written
-    ensures { Writes (room_for longest_drain out.old) (output_of input.now) out.old result out.new }
+// The line of the drain that the input asks for, or its first fault.
+fn drain(input: &[u8], out: &mut [u8]) -> Result<usize, Refusal>
+    requires { longest_drain ≤ length out.old }
+    ensures { Writes (input_fault input.now) (drained_line (end_in input.now)) out.old result out.new }
 {
-    if out.len() < LONGEST {
-        return Written::NotWritten(Refusal::Short);
-    }
     let end = 2 + format::number_at(input, 0);
     let list = end + 4;
     if input.len() < list {
-        return lines::refusal_line(Refusal::Contents, out);
+        return Err(Refusal::Contents);
     }
     let seed = seed_at(input, end);
     let drained = draining::drain(records::blank(), &input[2..end], &input[list..], seed);
-    let verdict = drained.verdict;
-    if let Verdict::Fault(r) = verdict {
-        return lines::refusal_line(r, out);
-    }
+    drained.verdict?;
     let last = drained.record;
-    let numbers = [last.messages, last.moves];
-    Written::Bytes(lines::line(out, 0, b"drained", &numbers))
+    let mut page = Page::new(out);
+    lines::line(&mut page, b"drained", &[last.messages, last.moves]);
+    Ok(page.at)
+}
+
+// What is printed for this input, or 9 and nothing printed where the longest finds no room.
+pub fn output(input: &[u8], out: &mut [u8]) -> Result<usize, Refusal>
+    ensures { Writes (room_for longest_drain out.old) (output_of input.now) out.old result out.new }
+{
+    if out.len() < LONGEST {
+        return Err(Refusal::Short);
+    }
+    let written = drain(input, out);
+    lines::told(written, out)
 }

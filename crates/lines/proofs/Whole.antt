@@ -88,10 +88,13 @@ module _ (d : ℕ) where
 any-short : (ns : List ℕ) → Short 21 ns
 any-short ns i l = decimal-bound (get_or ns i 0)
 
+pub line-bound : (first ns : List ℕ) → length (line_of first ns) ≤ length first + length ns * 22 + 1
+line-bound first ns = line-length 21 first ns (any-short ns)
+
 -- a line alone in a buffer
 pub lays-line : (first ns : List ℕ) {b : List ℕ} {q : Page} → q ≡ with_line (page b 0) first ns → length first + length ns * 22 + 1 ≤ length b → Lays b q (line_of first ns)
 lays-line first ns {b} e l = (within-line 21 first ns (length first) (le_refl _) (any-short ns) (within_none b) e (omega arith)).lays
 
 pub refusal_length : (r : Refusal) → length (refusal_line r) ≤ longest_refusal
 unfolding refusal_line
-refusal_length r = let ns = number_of r ∷ place_of r ∷ [] in line-length 21 refused_word ns (any-short ns)
+refusal_length r = line-bound refused_word (number_of r ∷ place_of r ∷ [])
