@@ -35,6 +35,7 @@ fn choice(messages: usize, wants: &[u16], delivered: &[u8], holders: &[u16], loo
     ensures { result ≡ chosen_by (min messages max_messages) (ready_at wants.now delivered.now holders.now) look }
 {
     let n = machine::few(messages);
+    // A `for`: a chain that finds k would say (look + k) % n once more behind it.
     for k in 0..n {
         let m = (look + k) % n;
         if machine::is_ready(wants, delivered, holders, m) {
