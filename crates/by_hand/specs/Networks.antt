@@ -1,8 +1,8 @@
 -- RULES 11.1: the constant table of the networks worked by hand.
-use Rattle.std.specs.Prelude.{List, [], ◌∷◌, ℕ}
+use Rattle.std.specs.Prelude.{List, [], ◌∷◌, ℕ, Ok}
 use Rattle.hops.specs.Hop.{HopAnswer, Next, NoWay}
 use Rattle.cabling.specs.Cabling.{Cabling, cabled}
-use Rattle.messages.specs.declared.Answer.{Answer}
+use Rattle.messages.specs.Step.{MoveAnswer}
 use Rattle.messages.specs.declared.Answer.TheVariants.{Moved, Blocked, Delivered}
 
 -- what hop is asked, and its answer
@@ -28,9 +28,9 @@ load messages moves look = record { messages = messages; moves = moves; look = l
 pub record Tries : Type 0 where
   pub messages : List ℕ
   pub tried : List ℕ
-  pub answers : List Answer
+  pub answers : List MoveAnswer
 
-abbrev pub tries : List ℕ → List ℕ → List Answer → Tries
+abbrev pub tries : List ℕ → List ℕ → List MoveAnswer → Tries
 tries messages tried answers = record { messages = messages; tried = tried; answers = answers }
 
 -- a cabling, with what the rules give for it: the labels, T, W, the node that is labelled first, both tables of rows, hops by them, both images and the sheet; then
@@ -67,7 +67,7 @@ link = record {
   full-image = 1 ∷ 4 ∷ 1 ∷ 0 ∷ 26 ∷ 0 ∷ 4 ∷ 0 ∷ 2 ∷ 0 ∷ 30 ∷ 0 ∷ 2 ∷ 0 ∷ 3 ∷ 0 ∷ 32 ∷ 0 ∷ 4 ∷ 0 ∷ 4 ∷ 0 ∷ 36 ∷ 0 ∷ 4 ∷ 0 ∷ 2 ∷ 0 ∷ 0 ∷ 1 ∷ 1 ∷ 2 ∷ 0 ∷ 1 ∷ 0 ∷ 1 ∷ 0 ∷ 255 ∷ 0 ∷ 1 ∷ [];
   sheet = 50 ∷ 10 ∷ 48 ∷ 32 ∷ 49 ∷ 10 ∷ [];
   loads = load (0 ∷ 1 ∷ []) 4 0 ∷ load (0 ∷ 0 ∷ []) 3 0 ∷ [];
-  tries = tries (0 ∷ 1 ∷ 0 ∷ 1 ∷ []) (0 ∷ 1 ∷ 0 ∷ 0 ∷ 0 ∷ 1 ∷ []) (Moved ∷ Blocked 0 ∷ Moved ∷ Moved ∷ Delivered ∷ Moved ∷ []) ∷ [];
+  tries = tries (0 ∷ 1 ∷ 0 ∷ 1 ∷ []) (0 ∷ 1 ∷ 0 ∷ 0 ∷ 0 ∷ 1 ∷ []) (Ok Moved ∷ Ok (Blocked 0) ∷ Ok Moved ∷ Ok Moved ∷ Ok Delivered ∷ Ok Moved ∷ []) ∷ [];
 }
 
 -- RULES 11.1: "Triangle: labels 1, 2, 3; T = 3, W = 1."

@@ -7,8 +7,7 @@ use Rattle.format.specs.Contents.{links_kinds, full_kinds}
 use Rattle.image.specs.Image.{image_of, kinds_of}
 use Rattle.sheets.specs.Sheet.{sheet_of}
 use Rattle.messages.specs.declared.Record.{Record}
-use Rattle.messages.specs.declared.Answer.{Answer}
-use Rattle.messages.specs.Step.{step_of}
+use Rattle.messages.specs.Step.{MoveAnswer, step_of}
 use Rattle.start.specs.Start.{fresh_of}
 use Rattle.picking.specs.Order.{pick_of}
 use Rattle.draining.specs.Drained.{drain_of}
@@ -36,7 +35,7 @@ EveryLoad c [] = Unit {0}
 EveryLoad c (l ∷ loads) = RightLoad c l × EveryLoad c loads
 
 -- what moves that are tried one after another answer
-abbrev pub answers_of : Record → List ℕ → List Answer
+abbrev pub answers_of : Record → List ℕ → List MoveAnswer
 answers_of r [] = []
 answers_of r (m ∷ tried) = (step_of r m).answer ∷ answers_of (step_of r m).«record» tried
 

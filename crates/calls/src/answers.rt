@@ -74,13 +74,13 @@ pub fn written(name: &[u8], answer: Result<usize, Refusal>) {
 }
 
 // The line of a move.
-pub fn step(answer: Answer) {
+pub fn step(answer: Result<Answer, Refusal>) {
     match answer {
-        Answer::Already => word(b"already\n"),
-        Answer::Moved => word(b"moved\n"),
-        Answer::Blocked(by) => line(b"blocked", &[by]),
-        Answer::Delivered => word(b"delivered\n"),
-        Answer::Refused(r) => refused(r),
+        Ok(Answer::Already) => word(b"already\n"),
+        Ok(Answer::Moved) => word(b"moved\n"),
+        Ok(Answer::Blocked(by)) => line(b"blocked", &[by]),
+        Ok(Answer::Delivered) => word(b"delivered\n"),
+        Err(r) => refused(r),
     }
 }
 

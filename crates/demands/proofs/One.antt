@@ -39,8 +39,7 @@ use Rattle.sheets.specs.Promises.{Cables, Sheets}
 use Rattle.sheets.proofs.Meaning.{sheet_means}
 use Rattle.messages.specs.declared.Record.{Record}
 use Rattle.messages.specs.declared.Stepped.{Stepped}
-use Rattle.messages.specs.declared.Answer.{Answer}
-use Rattle.messages.specs.Step.{with}
+use Rattle.messages.specs.Step.{MoveAnswer, with}
 use Rattle.messages.specs.Runs.{successful}
 use Rattle.messages.proofs.Answers.{unchanged, move-refused-iff}
 use Rattle.hops.proofs.Meaning.{row-refused-iff, hop-refused-iff, hop_refusal}
@@ -156,7 +155,7 @@ move-keeps = record {
   untouched = λ m s t a r x e. ap (λ (z : Stepped). z.«record») x ∙ unchanged s m (ap successful (sym (answer_of x) ∙ e));
 }
   where
-    answer_of : {a : Answer} {t : Record} {y : Stepped} → with t a ≡ y → a ≡ y.answer
+    answer_of : {a : MoveAnswer} {t : Record} {y : Stepped} → with t a ≡ y → a ≡ y.answer
     answer_of x = ap (λ (z : Stepped). z.answer) x
 
 -- ---- calls over tables

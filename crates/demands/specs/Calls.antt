@@ -23,9 +23,7 @@ use Rattle.route.specs.Route.{route_fault, route_bytes}
 use Rattle.sheets.specs.Sheet.{sheet_of, cabling_on}
 use Rattle.sheets.specs.Verdicts.{OfSheet}
 use Rattle.messages.specs.declared.Record.{Record}
-use Rattle.messages.specs.declared.Answer.{Answer}
-use Rattle.messages.specs.declared.Answer.TheVariants as move
-use Rattle.messages.specs.Step.{with}
+use Rattle.messages.specs.Step.{MoveAnswer, with}
 use Rattle.messages.specs.Step as machine
 use Rattle.messages.specs.Tells.{MoveFault}
 use Rattle.start.specs.Start.{beside, start_of}
@@ -102,10 +100,10 @@ Start i old v after = beside v after ≡ start_of old i.0 i.1
 abbrev pub StartRows : List ℕ × List ℕ → Record → Refusal → Type 0
 StartRows i old r = OfStart i.0 i.1 (Err r)
 
-abbrev pub NotMoves : Answer → Refusal → Type 0
-NotMoves a r = a ≡ move.Refused r
+abbrev pub NotMoves : MoveAnswer → Refusal → Type 0
+NotMoves a r = a ≡ Err r
 
-abbrev pub Move : ℕ → Record → Answer → Record → Type 0
+abbrev pub Move : ℕ → Record → MoveAnswer → Record → Type 0
 Move m old a after = with after a ≡ machine.step_of old m
 
 abbrev pub MoveRows : ℕ → Record → Refusal → Type 0

@@ -1,5 +1,5 @@
 -- Moves that are tried one after another, in whichever order: a list of message numbers of any size, known or not, blocked or delivered.
-use Rattle.std.specs.Prelude.{◌≡◌, true, List, [], ◌∷◌, ◌↔◌, ℕ, ◌+◌, ◌≤◌, ◌<◌, length}
+use Rattle.std.specs.Prelude.{◌≡◌, true, List, [], ◌∷◌, ◌↔◌, ℕ, ◌+◌, ◌≤◌, ◌<◌, length, Err}
 use Rattle.finite.specs.Truth.{non}
 use Rattle.finite.specs.Sum.{sum_to, when}
 use Rattle.finite.specs.Search.{Some}
@@ -9,7 +9,6 @@ use Rattle.cabling.specs.Cabling.{Cabling, links}
 use Rattle.claims.specs.Claims.{Progress}
 use Rattle.fabric.specs.Fabric.{label_for, fabric_of}
 use Rattle.messages.specs.declared.Record.{Record}
-use Rattle.messages.specs.declared.Answer.TheVariants.{Refused}
 use Rattle.messages.specs.Step.{is_delivered, holder, step_of}
 use Rattle.messages.specs.Fresh.{source_in, target_in}
 use Rattle.messages.specs.Runs.{messages_in, successful}
@@ -41,7 +40,7 @@ pub record Drains (c : Cabling) (list : List ℕ) (begun : Record) (tries : List
   -- RULES 2.3: "In whichever order moves are tried, while a message is undelivered some message can move."
   pub goes_on : Some (messages_in list) (λ m. non (is_delivered (tried begun tries) m)) → Some (messages_in list) (λ m. successful (step_of (tried begun tries) m).answer)
   -- RULES 8.3: "Hop answers a node in every record that a start and moves lead to": no message of the list is refused
-  pub never-refused : (m : ℕ) → m < messages_in list → (f : Refusal) → (step_of (tried begun tries) m).answer ≡ Refused f → ⊥
+  pub never-refused : (m : ℕ) → m < messages_in list → (f : Refusal) → (step_of (tried begun tries) m).answer ≡ Err f → ⊥
   -- RULES 2.3: "Successful moves never exceed the sum"
   pub never-more : succeeded begun tries ≤ sum
   -- RULES 2.3: "They reach that sum exactly when every message is delivered"

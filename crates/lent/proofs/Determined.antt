@@ -4,15 +4,14 @@ use mathlib.Core.Path.{◌≡◌, ap}
 use mathlib.Core.List.{List}
 use Prim.Native.Nat.{ℕ}
 use Rattle.messages.specs.declared.Record.{Record}
-use Rattle.messages.specs.declared.Answer.{Answer}
 use Rattle.messages.specs.declared.Stepped.{Stepped}
-use Rattle.messages.specs.Step.{with, step_of}
+use Rattle.messages.specs.Step.{MoveAnswer, with, step_of}
 use Rattle.records.proofs.Determined.{step_determined}
 use Rattle.start.specs.declared.Started.{Started}
 use Rattle.start.specs.Start.{beside, start_of}
 use Rattle.start.proofs.Determined as by_value
 
-pub advance_determined : (old : Record) (m : ℕ) (a a' : Answer) (r r' : Record) → with r a ≡ step_of old m → with r' a' ≡ step_of old m → (a ≡ a') × (r ≡ r')
+pub advance_determined : (old : Record) (m : ℕ) (a a' : MoveAnswer) (r r' : Record) → with r a ≡ step_of old m → with r' a' ≡ step_of old m → (a ≡ a') × (r ≡ r')
 advance_determined old m a a' r r' = step_determined old m (with r a) (with r' a')
 
 pub moved_determined : (old : Record) (m : ℕ) (x y : Stepped) → x ≡ step_of old m → y ≡ step_of old m → (x.answer ≡ y.answer) × (x.«record» ≡ y.«record»)

@@ -10,7 +10,7 @@ use refusal::Refusal;
 use start::Started;
 
 // One move of a message. RULES 8.1: "Its caller lends it for the length of one move."
-pub fn advance(record: &mut Record, message: usize) -> Answer
+pub fn advance(record: &mut Record, message: usize) -> Result<Answer, Refusal>
     ensures { with «record».new result ≡ step_of «record».old message }
 {
     let done = records::step(*record, message);

@@ -9,14 +9,13 @@ use Rattle.finite.specs.Search.{all}
 use Rattle.messages.specs.Sizes.{max_messages}
 use Rattle.messages.specs.Channels.{injection}
 use Rattle.messages.specs.declared.Record.{Record}
-use Rattle.messages.specs.declared.Answer.{Answer}
 use Rattle.messages.specs.declared.Stepped.{Stepped}
-use Rattle.messages.specs.Step.{with}
+use Rattle.messages.specs.Step.{MoveAnswer, with}
 use Rattle.messages.specs.Ready.{ready_at}
 use Rattle.machine.specs.InPlace.{step_in}
 
 -- of `step_in`: the answer, the count and every array that it changes
-pub step_in_determined : (span : ℕ) (r : Record) (m : ℕ) (x y : Record) (a b : Answer) → with x a ≡ step_in span r m → with y b ≡ step_in span r m
+pub step_in_determined : (span : ℕ) (r : Record) (m : ℕ) (x y : Record) (a b : MoveAnswer) → with x a ≡ step_in span r m → with y b ≡ step_in span r m
     → (a ≡ b) × (x.moves ≡ y.moves) × (x.heads ≡ y.heads) × (x.classes ≡ y.classes) × (x.wants ≡ y.wants) × (x.delivered ≡ y.delivered) × (x.holders ≡ y.holders)
 step_in_determined span r m x y a b p q =
     let e = p ∙ sym q in

@@ -1,4 +1,5 @@
 -- A move in place: it is a move of the record where every channel from the bound on is free; and each way through its code is a case of it.
+use Rattle.std.specs.Prelude.{Ok}
 use mathlib.Core.Path.{◌≡◌, refl, sym, ◌∙◌, ap}
 use mathlib.Core.Bool.{true, false}
 use mathlib.Core.List.{List}
@@ -58,7 +59,7 @@ unfolding advanced ahead_of
 advances r m a b c d e h k w = let f : _ ≡ ahead_of r m = e ∙ rw (a, b, c, d) refl in rw (h, k, w, f) refl
 
 module _ (span : ℕ) (r : Record) (m : ℕ) where
-  arrives : arriving r m ≡ true → step_in span r m ≡ with (arrived_in span r m) Delivered
+  arrives : arriving r m ≡ true → step_in span r m ≡ with (arrived_in span r m) (Ok Delivered)
   unfolding step_in
   arrives h = rw (h, step_in)
 
@@ -87,7 +88,7 @@ module _ (span : ℕ) (r : Record) (m : ℕ) where
       bcase (arriving r m)
       (λ t.
       let a = arriving-is t in
-      arrives t ∙ ap (λ (x : Record). with x Delivered) (arrived-whole size free) ∙ sym (step_delivered r m a.0 a.1 a.2))
+      arrives t ∙ ap (λ (x : Record). with x (Ok Delivered)) (arrived-whole size free) ∙ sym (step_delivered r m a.0 a.1 a.2))
       stays
 
   -- ---- what each way through the code leaves
@@ -96,13 +97,13 @@ module _ (span : ℕ) (r : Record) (m : ℕ) where
   refused_in l = sym (not-arriving (λ a b e. omega arith) ∙ step-none r m l)
 
   module _ (low : m < messages_of r) where
-    pub already_in : is_delivered r m ≡ true → with r Already ≡ step_in span r m
+    pub already_in : is_delivered r m ≡ true → with r (Ok Already) ≡ step_in span r m
     already_in d = sym (not-arriving (λ a b e. no_tf d b) ∙ step-already r m low d)
 
     module _ (d : is_delivered r m ≡ false) {c : ℕ} (wants : c ≡ want r m) where
       pub delivered_in : {moves : ℕ} {delivered holders : List ℕ} → c ≡ all_taken → moves ≡ counted r.moves → delivered ≡ set r.delivered m 1
           → holders ≡ given_back span (m + 1) r.holders
-          → with (packed r.nodes r.messages moves r.labels r.free r.falling r.targets r.heads r.classes r.wants delivered holders) Delivered
+          → with (packed r.nodes r.messages moves r.labels r.free r.falling r.targets r.heads r.classes r.wants delivered holders) (Ok Delivered)
           ≡ step_in span r m
       unfolding arriving arrived_in
       delivered_in e count mark back =
@@ -124,13 +125,13 @@ module _ (span : ℕ) (r : Record) (m : ℕ) where
           who_is : by ≡ holder r (want r m)
           who_is = who ∙ ap (holder r) wants
 
-          pub blocked_in : (by ≡ 0 → ⊥) → with r (Blocked (by - 1)) ≡ step_in span r m
+          pub blocked_in : (by ≡ 0 → ⊥) → with r (Ok (Blocked (by - 1))) ≡ step_in span r m
           blocked_in h =
-              ap (λ (x : ℕ). with r (Blocked (x - 1))) who_is ∙ sym (onward ∙ step_blocked r m low d (omega arith) (λ q. h (who_is ∙ q)))
+              ap (λ (x : ℕ). with r (Ok (Blocked (x - 1)))) who_is ∙ sym (onward ∙ step_blocked r m low d (omega arith) (λ q. h (who_is ∙ q)))
 
           pub moved_in : {moves : ℕ} {holders : List ℕ} {after : Record} → by ≡ 0 → moves ≡ counted r.moves → holders ≡ set r.holders c (m + 1)
               → after ≡ advanced (packed r.nodes r.messages moves r.labels r.free r.falling r.targets r.heads r.classes r.wants r.delivered holders) m
-              → with after Moved ≡ step_in span r m
+              → with after (Ok Moved) ≡ step_in span r m
           unfolding moved ahead_of advanced
           moved_in z count held on =
               let one = add-one m in

@@ -1,5 +1,5 @@
 -- A move in arrays that stay in their place: that of the record which they make, but a message that is delivered gives back only channels below a bound.
-use Rattle.std.specs.Prelude.{Bool, true, false, List, ℕ, suc, length, get_or, set}
+use Rattle.std.specs.Prelude.{Bool, true, false, List, ℕ, suc, length, get_or, set, Ok}
 use Rattle.finite.specs.Truth.{◌&◌, non, same, below}
 use Rattle.finite.specs.Lists.{tabulate}
 use Rattle.messages.specs.Sizes.{max_messages}
@@ -51,4 +51,4 @@ arrived_in span r m =
 
 -- one move of message m in place; one that does not deliver it is a move of the record
 unfoldable pub step_in : ℕ → Record → ℕ → Stepped
-step_in span r m = elim (arriving r m) [ true ↦ with (arrived_in span r m) Delivered | false ↦ step_of r m ]
+step_in span r m = elim (arriving r m) [ true ↦ with (arrived_in span r m) (Ok Delivered) | false ↦ step_of r m ]

@@ -100,7 +100,7 @@ fn advance<'a>(lent: &mut Lent<'a>, message: usize)
 }
 
 // One move of a message, in arrays that stay in their place. A message that is delivered gives back only channels below `span`.
-pub fn step_in<'a>(lent: &mut Lent<'a>, span: usize, message: usize) -> Answer
+pub fn step_in<'a>(lent: &mut Lent<'a>, span: usize, message: usize) -> Result<Answer, Refusal>
     ensures step { with (made_of lent.new) result ≡ step_in span (made_of lent.old) message }
     ensures lent { StaysLent lent.old lent.new }
 {
@@ -108,30 +108,30 @@ pub fn step_in<'a>(lent: &mut Lent<'a>, span: usize, message: usize) -> Answer
     let delivered = &mut *lent.delivered;
     let holders = &mut *lent.holders;
     if few(lent.messages) <= message {
-        return Answer::Refused(Refusal::Unknown(0));
+        return Err(Refusal::Unknown(0));
     }
     if marked(delivered, message) {
-        return Answer::Already;
+        return Ok(Answer::Already);
     }
     let want = usize::from(slices::get(wants, message, 0));
     if want == ALL_TAKEN {
         channels::release(holders, span, (message + 1) as u16);
         slices::put(delivered, message, 1);
         *lent.moves = count(*lent.moves);
-        return Answer::Delivered;
+        return Ok(Answer::Delivered);
     }
     if MAX_CHANNELS <= want {
-        return Answer::Refused(Refusal::Unknown(0));
+        return Err(Refusal::Unknown(0));
     }
     let holder = usize::from(slices::get(holders, want, 0));
     if holder != 0 {
         let by = holder - 1;
-        return Answer::Blocked(by);
+        return Ok(Answer::Blocked(by));
     }
     slices::put(holders, want, (message + 1) as u16);
     *lent.moves = count(*lent.moves);
     advance(lent, message);
-    Answer::Moved
+    Ok(Answer::Moved)
 }
 
 // Would a move of a message succeed?

@@ -1,5 +1,6 @@
 -- What each answer tells, RULES 8.3: "it takes that one channel", "blocked, by the number of that message", "it is delivered and gives back all its channels",
 -- "No other answer changes the record."
+use Rattle.std.specs.Prelude.{Ok, Err}
 use mathlib.Core.Path.{◌≡◌, refl, sym, ◌∙◌, ap}
 use mathlib.Core.Bool.{Bool, false}
 use mathlib.Core.List.{List}
@@ -16,7 +17,7 @@ use Rattle.claims.proofs.Holding.{holds-held}
 use Rattle.claims.proofs.Waiting.{not_own}
 use Rattle.hops.specs.Tabled.{Tabled}
 use Rattle.messages.specs.declared.Record.{Record}
-use Rattle.messages.specs.declared.Answer.TheVariants.{Moved, Blocked, Refused}
+use Rattle.messages.specs.declared.Answer.TheVariants.{Moved, Blocked}
 use Rattle.messages.specs.declared.Stepped.{Stepped}
 use Rattle.messages.specs.Sizes.{max_channels}
 use Rattle.messages.specs.Channels.{all_taken}
@@ -46,14 +47,14 @@ unchanged r m = go (step_case r m)
     go (moves l u d z) h = no_tf refl h
 
 -- RULES 8.3: "refused, with 10, where there is no such message, or no channel comes next for it", whatever record it is
-pub move-refused-iff : (r : Record) (m : ℕ) (f : Refusal) → ((step_of r m).answer ≡ Refused f) ↔ ((f ≡ Unknown 0) × MoveFault r m)
-move-refused-iff r m f = (λ e. faulty (step_case r m) e, λ o. given o.1 ∙ ap Refused (sym o.0))
+pub move-refused-iff : (r : Record) (m : ℕ) (f : Refusal) → ((step_of r m).answer ≡ Err f) ↔ ((f ≡ Unknown 0) × MoveFault r m)
+move-refused-iff r m f = (λ e. faulty (step_case r m) e, λ o. given o.1 ∙ ap Err (sym o.0))
   where
-    given : MoveFault r m → (step_of r m).answer ≡ Refused (Unknown 0)
+    given : MoveFault r m → (step_of r m).answer ≡ Err (Unknown 0)
     given (no_message l) = ap (λ (z : Stepped). z.answer) (step-none r m l)
     given (none-next l u d e) = ap (λ (z : Stepped). z.answer) (step-astray r m l u d e)
 
-    faulty : {x : Stepped} → Case r m x → x.answer ≡ Refused f → (f ≡ Unknown 0) × MoveFault r m
+    faulty : {x : Stepped} → Case r m x → x.answer ≡ Err f → (f ≡ Unknown 0) × MoveFault r m
     faulty (unknown l) e = (cc, no_message l)
     faulty (already l u) e = let z : ◌≡◌ {A = ℕ} 0 1 = cc in absurd (omega arith)
     faulty (arrives l u h) e = no_tf refl (ap successful e)
@@ -132,8 +133,8 @@ module _ {n : ℕ} {edge : ℕ → ℕ → Bool} {labels free falling list : Lis
     pub each_answer : Tells n edge labels list r m (step_of r m).«record» (step_of r m).answer
     each_answer = case_tells (reached_state tabled listed run).1 m (step_case r m)
 
-    pub one_channel : (step_of r m).answer ≡ Moved → Took n edge labels list r m (step_of r m).«record»
+    pub one_channel : (step_of r m).answer ≡ Ok Moved → Took n edge labels list r m (step_of r m).«record»
     one_channel e = (rw e at each_answer).2
 
-    pub blocked_by : (b : ℕ) → (step_of r m).answer ≡ Blocked b → BlockedBy k r m b
+    pub blocked_by : (b : ℕ) → (step_of r m).answer ≡ Ok (Blocked b) → BlockedBy k r m b
     blocked_by b e = (rw e at each_answer).2

@@ -1,4 +1,5 @@
 -- What a move answers and leaves, and which channel comes next, case by case.
+use Rattle.std.specs.Prelude.{Ok}
 use mathlib.Core.Path.{◌≡◌, sym, ◌∙◌, ap}
 use mathlib.Core.Bool.{true, false}
 use mathlib.Core.List.{List}
@@ -78,12 +79,12 @@ module _ (r : Record) (m : ℕ) where
     pub there : below m r.messages & below m max_messages ≡ true
     there = both (lt-below (omega arith)) (lt-below (omega arith))
 
-    pub step-already : is_delivered r m ≡ true → step_of r m ≡ with r Already
+    pub step-already : is_delivered r m ≡ true → step_of r m ≡ with r (Ok Already)
     unfolding step_of
     step-already d = rw (there, step_of, d)
 
     module _ (d : is_delivered r m ≡ false) where
-      pub step_delivered : want r m ≡ all_taken → step_of r m ≡ with (arrived r m) Delivered
+      pub step_delivered : want r m ≡ all_taken → step_of r m ≡ with (arrived r m) (Ok Delivered)
       unfolding step_of
       step_delivered e = let past : max_channels ≤ want r m = omega arith in rw (there, step_of, d, le_below past, eq-same e)
 
@@ -92,11 +93,11 @@ module _ (r : Record) (m : ℕ) where
       step-astray past e = rw (there, step_of, d, le_below past, ne_same e)
 
       module _ (next : want r m < max_channels) where
-        pub step_blocked : (holder r (want r m) ≡ 0 → ⊥) → step_of r m ≡ with r (Blocked (holder r (want r m) - 1))
+        pub step_blocked : (holder r (want r m) ≡ 0 → ⊥) → step_of r m ≡ with r (Ok (Blocked (holder r (want r m) - 1)))
         unfolding step_of
         step_blocked h = rw (there, step_of, d, lt-below next, not-free-held _ _ h)
 
-        pub step-moved : holder r (want r m) ≡ 0 → step_of r m ≡ with (moved r m) Moved
+        pub step-moved : holder r (want r m) ≡ 0 → step_of r m ≡ with (moved r m) (Ok Moved)
         unfolding step_of
         step-moved h = rw (there, step_of, d, lt-below next, free-unheld _ _ h)
 
@@ -104,12 +105,12 @@ module _ (r : Record) (m : ℕ) where
 
 pub data Case (r : Record) (m : ℕ) : Stepped → Type 0 where
   unknown : messages_of r ≤ m → Case r m (refused_of r)
-  already : m < messages_of r → is_delivered r m ≡ true → Case r m (with r Already)
-  arrives : m < messages_of r → is_delivered r m ≡ false → want r m ≡ all_taken → Case r m (with (arrived r m) Delivered)
+  already : m < messages_of r → is_delivered r m ≡ true → Case r m (with r (Ok Already))
+  arrives : m < messages_of r → is_delivered r m ≡ false → want r m ≡ all_taken → Case r m (with (arrived r m) (Ok Delivered))
   astray : m < messages_of r → is_delivered r m ≡ false → max_channels ≤ want r m → (want r m ≡ all_taken → ⊥) → Case r m (refused_of r)
   waits : m < messages_of r → is_delivered r m ≡ false → want r m < max_channels → (holder r (want r m) ≡ 0 → ⊥)
-      → Case r m (with r (Blocked (holder r (want r m) - 1)))
-  moves : m < messages_of r → is_delivered r m ≡ false → want r m < max_channels → holder r (want r m) ≡ 0 → Case r m (with (moved r m) Moved)
+      → Case r m (with r (Ok (Blocked (holder r (want r m) - 1))))
+  moves : m < messages_of r → is_delivered r m ≡ false → want r m < max_channels → holder r (want r m) ≡ 0 → Case r m (with (moved r m) (Ok Moved))
 
 pub step_case : (r : Record) (m : ℕ) → Case r m (step_of r m)
 step_case r m =

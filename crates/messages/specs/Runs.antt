@@ -1,14 +1,13 @@
 -- Runs of the machine: what a start guarantees, the records that moves lead to from there, and the sum of (hops + 3).
-use Rattle.std.specs.Prelude.{Bool, true, false, List, [], ◌∷◌, ℕ, ◌+◌, ◌/◌, ◌≤◌, ◌<◌, length, get_or}
+use Rattle.std.specs.Prelude.{Bool, true, false, List, [], ◌∷◌, ℕ, ◌+◌, ◌/◌, ◌≤◌, ◌<◌, length, get_or, Ok, Err}
 use Rattle.finite.specs.Sum.{sum_to, when}
 use Rattle.lawful.specs.Turn.{label_in}
 use Rattle.lawful.specs.Entry.{route_of}
 use Rattle.messages.specs.declared.Record.{Record}
-use Rattle.messages.specs.declared.Answer.{Answer}
-use Rattle.messages.specs.declared.Answer.TheVariants.{Already, Moved, Blocked, Delivered, Refused}
+use Rattle.messages.specs.declared.Answer.TheVariants.{Already, Moved, Blocked, Delivered}
 use Rattle.messages.specs.Sizes.{max_list}
 use Rattle.messages.specs.Channels.{hop_channel, injection, consumption}
-use Rattle.messages.specs.Step.{step_of}
+use Rattle.messages.specs.Step.{MoveAnswer, step_of}
 use Rattle.messages.specs.Fresh.{source_in, target_in, begun_of}
 
 -- RULES 8.2: "a list of byte pairs (source, destination), 0 to 256 of them", each byte a node. That the pairs are whole is not asked: a last byte
@@ -44,12 +43,12 @@ pub data Reached (n : ℕ) (labels free falling list : List ℕ) : Record → Ty
   move : {r : Record} (m : ℕ) → Reached n labels free falling list r → Reached n labels free falling list (step_of r m).«record»
 
 -- RULES 8.3: "Moved and delivered are one successful move each."
-abbrev pub successful : Answer → Bool
-successful Already = false
-successful Moved = true
-successful (Blocked b) = false
-successful Delivered = true
-successful (Refused f) = false
+abbrev pub successful : MoveAnswer → Bool
+successful (Ok Already) = false
+successful (Ok Moved) = true
+successful (Ok (Blocked b)) = false
+successful (Ok Delivered) = true
+successful (Err f) = false
 
 -- the successful moves of a run
 abbrev pub successes : {n : ℕ} {labels free falling list : List ℕ} {r : Record} → Reached n labels free falling list r → ℕ

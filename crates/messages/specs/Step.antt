@@ -1,8 +1,9 @@
 -- RULES 8.3: what one move answers and what it leaves. Reads past an array give 0 and stores there change nothing, so this says something
 -- of every record.
-use Rattle.std.specs.Prelude.{Bool, true, false, List, ℕ, suc, ◌+◌, ◌-◌, min, get_or, set}
+use Rattle.std.specs.Prelude.{Bool, true, false, List, ℕ, suc, ◌+◌, ◌-◌, min, get_or, set, Result, Ok, Err}
 use Rattle.finite.specs.Truth.{◌&◌, non, same, below}
 use Rattle.finite.specs.Lists.{tabulate}
+use Rattle.refusal.specs.declared.Refusal.{Refusal}
 use Rattle.refusal.specs.declared.Refusal.TheVariants.{Unknown}
 use Rattle.hops.specs.Hop.{HopAnswer, hop_within, has_next, next_in, class_in}
 use Rattle.messages.specs.Sizes.{max_messages, max_channels, max_count}
@@ -10,7 +11,7 @@ use Rattle.messages.specs.Channels.{hop_channel, consumption, all_taken, no_chan
 use Rattle.messages.specs.declared.Record.{Record}
 use Rattle.messages.specs.declared.Ahead.{Ahead}
 use Rattle.messages.specs.declared.Answer.{Answer}
-use Rattle.messages.specs.declared.Answer.TheVariants.{Already, Moved, Blocked, Delivered, Refused}
+use Rattle.messages.specs.declared.Answer.TheVariants.{Already, Moved, Blocked, Delivered}
 use Rattle.messages.specs.declared.Stepped.{Stepped}
 
 -- where message m is going, the channel that it wants next, where its head is and its class once it has taken that, and whether it is delivered
@@ -107,13 +108,17 @@ arrived r m = record {
   holders = tabulate max_channels (λ c. released (suc m) (holder r c));
 }
 
+-- what a move answers, or its refusal
+abbrev pub MoveAnswer : Type 0
+MoveAnswer = Result Answer Refusal
+
 -- a record with an answer
-abbrev pub with : Record → Answer → Stepped
+abbrev pub with : Record → MoveAnswer → Stepped
 with r answer = record { «record» = r; answer = answer }
 
 -- refusal 10, RULES 9.1: "Move: no such message, or no channel comes next for it (8.3).", place 0
 abbrev pub refused_of : Record → Stepped
-refused_of r = with r (Refused (Unknown 0))
+refused_of r = with r (Err (Unknown 0))
 
 -- one move of message m
 unfoldable pub step_of : Record → ℕ → Stepped
@@ -122,15 +127,15 @@ step_of r m =
       | false ↦ refused_of r
       | true ↦
           elim (is_delivered r m) [
-            | true ↦ with r Already
+            | true ↦ with r (Ok Already)
             | false ↦
                 elim (below (want r m) max_channels) [
                   | true ↦
                       elim (unheld_in r.holders (want r m)) [
-                        | true ↦ with (moved r m) Moved
-                        | false ↦ with r (Blocked (holder r (want r m) - 1))
+                        | true ↦ with (moved r m) (Ok Moved)
+                        | false ↦ with r (Ok (Blocked (holder r (want r m) - 1)))
                       ]
-                  | false ↦ elim (same (want r m) all_taken) [ true ↦ with (arrived r m) Delivered | false ↦ refused_of r ]
+                  | false ↦ elim (same (want r m) all_taken) [ true ↦ with (arrived r m) (Ok Delivered) | false ↦ refused_of r ]
                 ]
           ]
     ]

@@ -1,14 +1,13 @@
 -- How a record says how far each message is and what it holds, and what each answer to a move tells.
-use Rattle.std.specs.Prelude.{◌≡◌, Bool, true, false, List, ℕ, suc, ◌≤◌, ◌<◌, length, get_or}
+use Rattle.std.specs.Prelude.{◌≡◌, Bool, true, false, List, ℕ, suc, ◌≤◌, ◌<◌, length, get_or, Ok, Err}
 use Rattle.finite.specs.Truth.{same}
 use Rattle.refusal.specs.declared.Refusal.TheVariants.{Unknown}
 use Rattle.claims.specs.Claims.{Progress, Keeps, holds, wanted, taking, finishing, WithinItinerary, made}
 use Rattle.messages.specs.Sizes.{max_channels}
 use Rattle.messages.specs.Channels.{injection, all_taken}
 use Rattle.messages.specs.declared.Record.{Record}
-use Rattle.messages.specs.declared.Answer.{Answer}
-use Rattle.messages.specs.declared.Answer.TheVariants.{Already, Moved, Blocked, Delivered, Refused}
-use Rattle.messages.specs.Step.{want, is_delivered, holder}
+use Rattle.messages.specs.declared.Answer.TheVariants.{Already, Moved, Blocked, Delivered}
+use Rattle.messages.specs.Step.{MoveAnswer, want, is_delivered, holder}
 use Rattle.messages.specs.Ready.{messages_of}
 use Rattle.messages.specs.Fresh.{source_in}
 use Rattle.messages.specs.Runs.{messages_in, itinerary_in}
@@ -74,12 +73,12 @@ pub record Arrived (n : ℕ) (edge : ℕ → ℕ → Bool) (labels list : List �
   pub then : Says n edge labels list after (finishing progress m)
 
 -- what each answer to a move of message m tells of the record and of the one after it
-abbrev pub Tells : ℕ → (ℕ → ℕ → Bool) → List ℕ → List ℕ → Record → ℕ → Record → Answer → Type 0
-Tells n edge labels list r m after Already = (m < messages_in list) × (is_delivered r m ≡ true) × (after ≡ r)
-Tells n edge labels list r m after Moved = (m < messages_in list) × (is_delivered r m ≡ false) × Took n edge labels list r m after
-Tells n edge labels list r m after (Blocked b) = (m < messages_in list) × (is_delivered r m ≡ false) × BlockedBy (messages_in list) r m b × (after ≡ r)
-Tells n edge labels list r m after Delivered = (m < messages_in list) × (is_delivered r m ≡ false) × Arrived n edge labels list r m after
-Tells n edge labels list r m after (Refused f) = (messages_in list ≤ m) × (f ≡ Unknown 0) × (after ≡ r)
+abbrev pub Tells : ℕ → (ℕ → ℕ → Bool) → List ℕ → List ℕ → Record → ℕ → Record → MoveAnswer → Type 0
+Tells n edge labels list r m after (Ok Already) = (m < messages_in list) × (is_delivered r m ≡ true) × (after ≡ r)
+Tells n edge labels list r m after (Ok Moved) = (m < messages_in list) × (is_delivered r m ≡ false) × Took n edge labels list r m after
+Tells n edge labels list r m after (Ok (Blocked b)) = (m < messages_in list) × (is_delivered r m ≡ false) × BlockedBy (messages_in list) r m b × (after ≡ r)
+Tells n edge labels list r m after (Ok Delivered) = (m < messages_in list) × (is_delivered r m ≡ false) × Arrived n edge labels list r m after
+Tells n edge labels list r m after (Err f) = (messages_in list ≤ m) × (f ≡ Unknown 0) × (after ≡ r)
 
 -- 10 of a move, whatever record it is. RULES 9.1: "Move: no such message, or no channel comes next for it (8.3)."
 pub data MoveFault (r : Record) (m : ℕ) : Type 0 where

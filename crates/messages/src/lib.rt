@@ -51,7 +51,7 @@ pub struct Ahead {
     pub class: u8,
 }
 
-// The answer to one move.
+// The answer to one move that is not refused.
 #[derive(Clone, Copy)]
 pub enum Answer {
     // It is delivered already.
@@ -62,13 +62,11 @@ pub enum Answer {
     Blocked(usize),
     // It is delivered now, and gave back all its channels.
     Delivered,
-    // There is no such message, or no channel comes next for it.
-    Refused(Refusal),
 }
 
-// A move's answer beside the record after it.
+// A move's answer, or its refusal where there is no such message or no channel comes next for it, beside the record after it.
 #[derive(Clone, Copy)]
 pub struct Stepped {
     pub record: Record,
-    pub answer: Answer,
+    pub answer: Result<Answer, Refusal>,
 }

@@ -5,9 +5,8 @@ use lib.ListN.{length}
 use Rattle.seeds.specs.Seed.{next_seed, look_at}
 use Rattle.messages.specs.Sizes.{max_channels}
 use Rattle.messages.specs.declared.Record.{Record}
-use Rattle.messages.specs.declared.Answer.{Answer}
 use Rattle.messages.specs.declared.Stepped.{Stepped}
-use Rattle.messages.specs.Step.{with, step_of}
+use Rattle.messages.specs.Step.{MoveAnswer, with, step_of}
 use Rattle.messages.specs.Tells.{FreeFrom}
 use Rattle.messages.specs.Ready.{messages_of, ready_at, ready}
 use Rattle.machine.specs.InPlace.{step_in}
@@ -15,7 +14,7 @@ use Rattle.machine.proofs.InPlace.{step-in}
 use Rattle.picking.specs.Order.{chosen_by, chosen, pick_of}
 use Rattle.picking.specs.InPlace.{picked, pick_in}
 
-pub picked_in : (span seed : ℕ) (r : Record) {next look message : ℕ} {x : Record} {a : Answer} → next ≡ next_seed seed → look ≡ look_at next (messages_of r)
+pub picked_in : (span seed : ℕ) (r : Record) {next look message : ℕ} {x : Record} {a : MoveAnswer} → next ≡ next_seed seed → look ≡ look_at next (messages_of r)
     → message ≡ chosen_by (messages_of r) (ready_at r.wants r.delivered r.holders) look
     → with x a ≡ step_in span r message → picked next look message x ≡ pick_in span seed r
 unfolding pick_in ready

@@ -69,7 +69,8 @@ pub fn pick_in<'a>(seed: u32, lent: &mut Lent<'a>, span: usize) -> PickedIn
     let delivered = &mut *lent.delivered;
     let holders = &mut *lent.holders;
     let picked = found(seed, lent.messages, wants, delivered, holders);
-    machine::step_in(lent, span, picked.message);
+    // A pick tells no answer: a refused move leaves the record as it was.
+    let _ = machine::step_in(lent, span, picked.message);
     picked
 }
 
