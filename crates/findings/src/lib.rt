@@ -2,5 +2,5 @@
 #![tactic(auto)]
 
 pub mod cases; // cases.rt: the networks of RULES 11.2, and the verdict on each
-mod inputs; // inputs.rt: what the programs are given
 pub mod networks; // networks.rt: an entry of the table, and what is found of it
+mod programs; // programs.rt: what the programs are given, and what they print

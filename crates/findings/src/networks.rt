@@ -1,78 +1,38 @@
-// An entry of the table, as the crate `worked` lays it out, and what is found of it: of its links image Show's lines, and for each list of messages Drain's line
-// for seed 0 and the message that is looked at first; the bytes of both images, the falling rows, hops and the sheet, where the entry has them.
-ghost use Rattle.std.specs.Prelude.{◌+◌, ◌≤◌, ◌<◌};
-
-use crate::inputs;
-use crate::inputs::ROOM;
-use hops::HopAnswer;
+// A network of the table that the crate `worked` holds, and what is found of it: of its links image Show's lines, and for each list of messages Drain's line for
+// seed 0 and the message that is looked at first; the bytes of both images, the falling rows, hops and the sheet, where the network has them.
+use crate::programs::{self, ROOM};
+use cabling::Cabling;
+use hops::{Hop, Tables};
 use laid::Page;
-use results::Written;
+use refusal::Refusal;
 
-// An entry: its nodes, the places of its lists, and the place behind it.
+// What hop is asked.
 #[derive(Clone, Copy)]
-struct Entry {
-    nodes: usize,
-    pairs: usize,
-    falling: usize,
-    hops: usize,
-    links: usize,
-    full: usize,
-    sheet: usize,
-    loads: usize,
-    next: usize,
+pub struct Asked {
+    pub node: u8,
+    pub class: u8,
+    pub destination: u8,
 }
 
-// The place behind the list whose length stands at place `at`.
-fn behind(table: &[u8], at: usize) -> usize
-    requires { at ≤ 4096 }
-    ensures { (at < result) × (result ≤ at + 256) }
-{
-    at + 1 + slices::byte(table, at) as usize
+// A cabling, and what the rules give for it: the labels, T, W, the node that is labelled first, both tables of rows, hops by them, both images and the sheet, and
+// messages that drain over it. What is left empty is not worked by hand.
+#[derive(Clone, Copy)]
+pub struct Network<'a> {
+    pub cabling: Cabling<'a>,
+    pub labels: &'a [u8],
+    pub turns: usize,
+    pub prohibited: usize,
+    pub first: usize,
+    pub free: &'a [u8],
+    pub falling: &'a [u8],
+    pub hops: &'a [Asked],
+    pub links: &'a [u8],
+    pub full: &'a [u8],
+    pub sheet: &'a [u8],
+    pub loads: &'a [&'a [u8]],
 }
 
-// The list whose length stands at place `at`.
-fn list(table: &[u8], at: usize) -> &[u8] {
-    if table.len() <= at {
-        return &table[..0];
-    }
-    let from = at + 1;
-    let size = slices::byte(table, at) as usize;
-    if table.len() - from < size {
-        return &table[..0];
-    }
-    let to = from + size;
-    &table[from..to]
-}
-
-// The entry at place `at`.
-fn entry_at(table: &[u8], at: usize) -> Entry
-    requires { at ≤ 524 }
-    ensures { (at < result.next) × (result.next ≤ 4096) }
-{
-    let nodes = slices::byte(table, at) as usize;
-    let pairs = at + 1;
-    let free = behind(table, pairs) + nodes + 3;
-    let falling = behind(table, free);
-    let hops = behind(table, falling);
-    let links = behind(table, hops);
-    let full = behind(table, links);
-    let sheet = behind(table, full);
-    let loads = behind(table, sheet);
-    let next = behind(table, loads);
-    Entry {
-        nodes,
-        pairs,
-        falling,
-        hops,
-        links,
-        full,
-        sheet,
-        loads,
-        next,
-    }
-}
-
-// A word and bytes.
+// A word and numbers.
 fn tell_fields(word: &[u8], bytes: &[u8]) {
     let mut buffer = [0u8; ROOM];
     let mut out = Page::new(&mut buffer);
@@ -82,139 +42,111 @@ fn tell_fields(word: &[u8], bytes: &[u8]) {
 }
 
 // A line of them.
-fn tell_bytes(word: &[u8], bytes: &[u8]) {
-    tell_fields(word, bytes);
-    io::write_all(1, b"\n");
+fn tell_line<N: Copy + Into<usize>>(word: &[u8], numbers: &[N]) {
+    let mut buffer = [0u8; ROOM];
+    let mut out = Page::new(&mut buffer);
+    out.put(word);
+    lines::rest(&mut out, numbers);
+    io::write_all(1, out.laid());
 }
 
 fn tell_image(image: &[u8], listed: &[u8]) {
-    if listed.len() != 0 {
-        tell_bytes(b"image", image);
+    if !listed.is_empty() {
+        tell_line(b"image", image);
     }
 }
 
 // The falling rows are the last bytes of the full image.
 fn tell_falling(image: &[u8], listed: &[u8]) {
-    if listed.len() == 0 {
-        return;
-    }
-    if listed.len() <= image.len() {
-        let from = image.len() - listed.len();
-        tell_bytes(b"falling", &image[from..]);
+    if !listed.is_empty() && listed.len() <= image.len() {
+        tell_line(b"falling", &image[image.len() - listed.len()..]);
     }
 }
 
 // What hop was asked, and what it answers.
-fn tell_hop(asked: &[u8], answer: HopAnswer) {
-    tell_fields(b"hop", asked);
+fn tell_hop(asked: Asked, answer: Result<Option<Hop>, Refusal>) {
+    tell_fields(b"hop", &[asked.node, asked.class, asked.destination]);
     match answer {
-        HopAnswer::Next(node, class) => {
-            let told = [node, class];
-            tell_bytes(b"", &told);
-        }
-        HopAnswer::NoWay => {
+        Ok(Some(hop)) => tell_line(b"", &[hop.node, hop.class]),
+        Ok(None) => {
             io::write_all(1, b" none\n");
         }
-        HopAnswer::Refused(_) => {
+        Err(_) => {
             io::write_all(1, b" refused\n");
         }
     }
 }
 
-// Each hop that is listed, three bytes each: a node, a class and a destination.
-fn tell_hops(image: &[u8], listed: &[u8]) {
-    let opened = image::open(image);
-    let f = opened.fabric;
-    let labels = f.labels;
-    let free = f.free;
-    let falling = f.falling;
-    for i in 0..listed.len() / 3 {
-        let asked = slices::front(slices::rest(listed, 3 * i), 3);
-        let answer = hops::hop_within(
-            &labels,
-            &free,
-            &falling,
-            f.nodes,
-            slices::byte_at(asked, 0),
-            slices::byte_at(asked, 1),
-            slices::byte_at(asked, 2),
+// Each hop that is listed.
+fn tell_hops(image: &[u8], listed: &[Asked]) {
+    let Ok(f) = image::open(image) else {
+        return;
+    };
+    let tables = Tables {
+        nodes: f.nodes,
+        labels: &f.labels,
+        free: &f.free,
+        falling: &f.falling,
+    };
+    for &asked in listed {
+        let answer = tables.within(
+            usize::from(asked.node),
+            usize::from(asked.class),
+            usize::from(asked.destination),
         );
         tell_hop(asked, answer);
     }
 }
 
 fn tell_load(image: &[u8], messages: &[u8]) {
-    inputs::tell_drained(image, messages);
-    let look = [seeds::look(seeds::next_seed(0), messages.len() / 2)];
-    let mut buffer = [0u8; ROOM];
-    let mut out = Page::new(&mut buffer);
-    lines::line(&mut out, b"looks", &look);
-    io::write_all(1, out.laid());
+    programs::tell_drained(image, messages);
+    tell_line(
+        b"looks",
+        &[seeds::look(seeds::next_seed(0), messages.len() / 2)],
+    );
 }
 
-// Each list of messages.
-fn tell_loads(image: &[u8], listed: &[u8]) {
-    let mut at = 0;
-    while at < 256 {
-        if listed.len() <= at {
-            return;
-        }
-        tell_load(image, list(listed, at));
-        at = behind(listed, at);
+// An image of the network, in the buffer; nothing where it is refused.
+fn laid<'b>(network: Network, full: bool, buffer: &'b mut [u8]) -> &'b [u8] {
+    let size = writing::write(&network.cabling, full, buffer).unwrap_or(0);
+    slices::front(buffer, size)
+}
+
+fn tell_links(network: Network, image: &[u8]) {
+    programs::say_shown(image);
+    tell_image(image, network.links);
+    for messages in network.loads {
+        tell_load(image, messages);
     }
 }
 
-// Writes an image of the entry's network; answers its length, 0 where it is refused.
-fn laid(table: &[u8], e: Entry, full: bool, buffer: &mut [u8]) -> usize {
-    let written = writing::write(e.nodes, list(table, e.pairs), full, buffer);
-    match written {
-        Written::Bytes(m) => m,
-        Written::NotWritten(_) => 0,
-    }
-}
-
-fn tell_links(table: &[u8], e: Entry, image: &[u8]) {
-    let mut out = [0u8; shown::LONGEST];
-    let written = shown::output(image, &mut out);
-    lines::say(written, &out);
-    tell_image(image, list(table, e.links));
-    tell_loads(image, list(table, e.loads));
-}
-
-fn tell_full(table: &[u8], e: Entry, image: &[u8]) {
-    tell_image(image, list(table, e.full));
-    tell_falling(image, list(table, e.falling));
-    tell_hops(image, list(table, e.hops));
+fn tell_full(network: Network, image: &[u8]) {
+    tell_image(image, network.full);
+    tell_falling(image, network.falling);
+    tell_hops(image, network.hops);
 }
 
 // The sheet of the links image.
-fn tell_sheet(image: &[u8], listed: &[u8]) {
-    if listed.len() == 0 {
+fn tell_sheet(network: Network, image: &[u8]) {
+    if network.sheet.is_empty() {
         return;
     }
     let mut out = [0u8; sheets::LONGEST];
-    let written = sheets::sheet(image, &mut out);
-    if let Written::Bytes(m) = written {
-        tell_bytes(b"sheet", slices::front(&out, m));
+    if let Ok(size) = sheets::sheet(image, &mut out) {
+        tell_line(b"sheet", slices::front(&out, size));
     }
 }
 
-fn tell_entry(table: &[u8], e: Entry, buffer: &mut [u8]) {
-    let links = laid(table, e, false, buffer);
-    tell_links(table, e, slices::front(buffer, links));
-    let full = laid(table, e, true, buffer);
-    tell_full(table, e, slices::front(buffer, full));
-    let again = laid(table, e, false, buffer);
-    tell_sheet(slices::front(buffer, again), list(table, e.sheet));
+fn tell_network(network: Network) {
+    let mut buffer = io::large_buffer();
+    tell_links(network, laid(network, false, &mut buffer));
+    tell_full(network, laid(network, true, &mut buffer));
+    tell_sheet(network, laid(network, false, &mut buffer));
 }
 
-// Every entry.
-pub fn tell_all(table: &[u8]) {
-    let mut at = 0;
-    while at < 524 {
-        let e = entry_at(table, at);
-        let mut space = io::large_buffer();
-        tell_entry(table, e, &mut space);
-        at = e.next;
+// Every network.
+pub fn tell_all(networks: &[Network]) {
+    for network in networks {
+        tell_network(*network);
     }
 }
