@@ -1,4 +1,5 @@
-// What is printed: words, and fields one space apart, each line closed by a line feed.
+// What is printed: words, and fields one space apart, each line closed by a line feed. All goes by `io`: `println!` rests on two more declared facts of the C
+// library than `read` and `write`, which README.md names as all that is trusted of it.
 use format::Entry;
 use hops::Hop;
 use messages::Answer;
