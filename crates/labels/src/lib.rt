@@ -45,7 +45,7 @@ fn better_of(t: &Table, w: Set, v: usize, best: Option<Best>) -> Option<Best>
     Some(Best { degree: d, node: v })
 }
 
-// The candidate of least degree, lowest number first, among the nodes of w; 64 where there is none.
+// The candidate of least degree, lowest number first, among the nodes of w; 64 where there is none, which `choice_by` names.
 pub fn choice(t: &Table, w: Set) -> usize
     ensures { result ≡ choice_by max_nodes (edge_of t.now) (has (members w)) }
 {
@@ -66,6 +66,7 @@ pub fn labels(t: &[u64], n: usize) -> [u8; MAX_NODES]
     let mut out = [0u8; MAX_NODES];
     for k in 0..m {
         let v = choice(&rest, w);
+        // `as`: a label is 64 at most, and `try_from` would have an error that never comes.
         slices::put(&mut out, v, (k + 1) as u8);
         network::strike(&mut rest, v);
         w = nodes::without(w, v);

@@ -2,7 +2,7 @@
 use mathlib.Core.Path.{◌≡◌, refl, sym, ◌∙◌, ap, subst}
 use mathlib.Core.Bool.{true, false}
 use Prim.Native.Nat.{ℕ, ◌^◌, ◌<◌}
-use Rattle.std.specs.Prelude.{Option, Some, None}
+use Rattle.std.specs.Prelude.{Option, Some}
 use Rattle.finite.specs.Sets.{has, without}
 use Rattle.finite.proofs.Truth.{iff, refute}
 use Rattle.finite.proofs.Sets.{has-lt, without_in, without-ne, in_without}
@@ -37,7 +37,3 @@ pass {left} {v} {next} l step given = record {
 
     at : (k : ℕ) → has next k ≡ without (has left) v k
     at k = ap (λ (x : ℕ). has x k) s.2 ∙ has_all max_nodes (without (has left) v) (λ u t. has-lt max_nodes left u l (without_in (has left) v u t)) k
-
--- after the last member nothing is left
-pub none-left : (left next : ℕ) {r : Option ℕ} → PassesLowest left r next → r ≡ None → left ≡ 0
-none-left left next step given = (subst (λ (o : Option ℕ). PassesLowest left o next) given step).0

@@ -108,14 +108,15 @@ pub fn difference(a: Set, b: Set) -> Set
 pub fn size(w: Set) -> usize
     ensures { result ≡ count max_nodes (has (members w)) }
 {
-    // A `u32`, of which the library makes no `usize` by `from`.
+    // `as`: the library makes no `usize` of a `u32` by `from`.
     w.count_ones() as usize
 }
 
-// The lowest node of the set, from its trailing zeros: 64 where the set is empty.
+// The lowest node of the set, from its trailing zeros: 64 where the set is empty, by its contract, so that a word needs no test.
 pub fn lowest(w: Set) -> usize
     ensures { result ≡ least max_nodes (has (members w)) }
 {
+    // `as`: the library makes no `usize` of a `u32` by `from`.
     w.trailing_zeros() as usize
 }
 

@@ -20,10 +20,6 @@ use Rattle.rows.specs.Steps.{pick, placed_of}
 pub square_le : (m : ℕ) → m ≤ max_nodes → m * m ≤ table_size
 square_le m l = mul-le-mul l l
 
--- every cell of such a table fits
-pub cell-fits : (m d v : ℕ) → m ≤ max_nodes → d < m → v < m → v * m + d < table_size
-cell-fits m d v few low l = let a = cell-lt m d low v l in let b = square_le m few in omega arith
-
 -- ---- one column
 
 -- the cells of column d before row v are those of the column, the others are as they were

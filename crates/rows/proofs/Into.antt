@@ -11,7 +11,7 @@ use Rattle.finite.specs.Truth.{◌&◌, ◌or◌, same, below}
 use Rattle.finite.specs.Sets.{has, set_of}
 use Rattle.finite.proofs.Truth.{bcase, and_true, and_false, or_false, false_and, true_and, same_refl, same-eq, same-ne, lt-below, le_below, false_or, below_next}
 use Rattle.finite.proofs.Sets.{has_0, has-set_of}
-use Rattle.finite.proofs.Lists.{get_or-zeros, tabulate-length}
+use Rattle.finite.proofs.Lists.{get_or-zeros}
 use Rattle.nodes.specs.Limits.{max_nodes}
 use Rattle.nodes.proofs.Words.{word_lt}
 use Rattle.nodes.proofs.Passing.{Pass}
@@ -80,7 +80,3 @@ module _ (ways : List ℕ) where
   pub gathered_all : (v : ℕ) {from : List ℕ} → Gathered ways from v → max_nodes ≤ v → from ≡ into_of ways
   unfolding into_of
   gathered_all v h l = h ∙ table_from_cong _ _ (λ u k a b. rw (lt-below {a = k} {b = v} (omega arith)) (and_true _))
-
-  pub into-length : {from : List ℕ} → from ≡ into_of ways → length from ≡ max_nodes
-  unfolding into_of table_from
-  into-length e = rw e (tabulate-length max_nodes _)

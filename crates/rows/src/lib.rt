@@ -42,7 +42,7 @@ fn enter(from: &mut [u64], v: usize, set: Set)
     }
 }
 
-// The rows turned round: for each node those from which one of these hops leads to it.
+// The rows turned round: for each node those from which one of these hops leads to it. `ways` may have any length, so v is counted, and read as any node.
 fn into_of(ways: &[u64]) -> Table
     ensures { result ≡ into_of ways.now }
 {
@@ -93,6 +93,7 @@ fn start(t: usize) -> Search
     ensures { result ≡ search_from t }
 {
     let mut entries = [NONE; MAX_NODES];
+    // `as`: a node is below 64, and `try_from` would have an error that never comes.
     entries[t] = t as u8;
     let side = Side {
         members: nodes::one(t),
@@ -113,6 +114,7 @@ impl Side {
         for v in nodes::each(nodes::difference(worth, self.members)) {
             let u = ways.lead(v, free, falling);
             if u < MAX_NODES {
+                // `as`: a node is below 64, and `try_from` would have an error that never comes.
                 self.entries[v] = u as u8;
                 self.members = nodes::with(self.members, v);
             }
@@ -136,7 +138,7 @@ impl Ways {
         }
     }
 
-    // The lowest node to which a hop from v leads: up into the free set, or down into the falling one. 64 where there is none.
+    // The lowest node to which a hop from v leads: up into the free set, or down into the falling one. 64 where there is none, as `nodes::lowest` answers.
     fn lead(&self, v: usize, free: Set, falling: Set) -> usize
         ensures { result ≡ lead_of self.now.up self.now.down (members free) (members falling) v }
     {
