@@ -1,8 +1,8 @@
 -- Laws of a word of n digits as a set of numbers below n: what the code's operations on words mean, and a word's members, size and lowest member.
 -- A node set is such a word, with n = max_nodes. The last laws take a set of the first n numbers to a longer word and back.
 use mathlib.Core.Path.{◌≡◌, sym, ◌∙◌, ap}
-use mathlib.Core.Bool.{Bool, true}
-use Prim.Native.Nat.{ℕ, ◌-◌, ◌*◌, ◌%◌, ◌^◌, ◌≤◌, ◌<◌}
+use mathlib.Core.Bool.{Bool, true, false}
+use Prim.Native.Nat.{ℕ, ◌+◌, ◌-◌, ◌*◌, ◌%◌, ◌^◌, ◌≤◌, ◌<◌}
 use native.Mathlib.Nat.{one-mul, mod-eq_of_lt, le_of_lt, lt_of_lt_of_le}
 use native.Mathlib.Omega.{arith}
 use lib.Bits.{bit_and, bit_or}
@@ -12,9 +12,9 @@ use Rattle.finite.specs.Sum.{count}
 use Rattle.finite.specs.Search.{least}
 use Rattle.finite.specs.Sets.{has, set_of, without}
 use Rattle.finite.proofs.Truth.{bcase, refute, true-non, ne_same, below-lt, below-le, lt-below}
-use Rattle.finite.proofs.Sum.{count-without, count_cong}
+use Rattle.finite.proofs.Sum.{sum-without, count-without, count_cong}
 use Rattle.finite.proofs.Search.{least-fact, least-before, least_cong}
-use Rattle.finite.proofs.Sets.{has_0, has-set_of, set_of_out, set_of-lt, set_of_cong, set_ext, set-empty, and_set, or_set, not_set, one_set}
+use Rattle.finite.proofs.Sets.{has-lt, has_0, has-set_of, set_of_out, set_of-lt, set_of_cong, set_of-has, set_ext, set-empty, and_set, or_set, not_set, one_set, without_other}
 
 -- ---- what the operations on words mean
 
@@ -52,6 +52,20 @@ pub has_all : (n : ℕ) (p : ℕ → Bool) → ((v : ℕ) → p v ≡ true → v
 has_all n p h v =
     bcase (below v n) (λ l. has-set_of n p v (below-lt _ _ l))
     (λ l. let m = below-le _ _ l in set_of_out n p v m ∙ sym (refute (p v) (λ t. let k = h v t in omega arith)))
+
+-- a word is its member v and the rest
+pub member-rest : (n w v : ℕ) → w < 2 ^ n → has w v ≡ true → w ≡ set_of n (same v) + set_of n (without (has w) v)
+unfolding set_of
+member-rest n w v h t =
+    let l = has-lt n w v h t in
+    let s = sum-without n (has w) (λ u. 2 ^ u) v l t in
+    let o = one_set n v l in
+    let e = set_of-has n w h in
+    omega arith
+
+-- so without what is no member it is the same
+pub without-none : (n w v : ℕ) → w < 2 ^ n → has w v ≡ false → w ≡ set_of n (without (has w) v)
+without-none n w v h f = set_ext n w (without (has w) v) h (λ u l. sym (without_other (has w) v u f))
 
 -- ---- size and lowest member
 
