@@ -47,6 +47,10 @@ writes_as {v} e q h = writes_where v e (λ f. q) h
 pub fault-writes : {v : Verdict} {r : Refusal} {bytes before : List ℕ} → v ≡ Err r → Writes v bytes before (Err r) before
 fault-writes e = writes_as (sym e) refl (refused _ _ _)
 
+-- an answer that passes on the refusal
+pub err-writes : {v : Verdict} {r : Refusal} {bytes before : List ℕ} {answer : Written} → v ≡ Err r → answer ≡ Err r → Writes v bytes before answer before
+err-writes {v} {bytes = bytes} {before = before} e a = subst (λ (x : Written). Writes v bytes before x before) (sym a) (fault-writes e)
+
 pub fine-writes : {v : Verdict} {a b before after : List ℕ} {answer : Written} → v ≡ Ok tt → a ≡ b → Writes (Ok tt) a before answer after → Writes v b before answer after
 fine-writes e q w = writes_as (sym e) q w
 

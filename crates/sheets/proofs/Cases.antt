@@ -18,7 +18,7 @@ use Rattle.format.specs.Bytes.{AllBytes}
 use Rattle.laid.specs.Laid.{Page, page}
 use Rattle.laid.proofs.Pieces.{lays-front}
 use Rattle.results.specs.Written.{Writes, Written}
-use Rattle.results.proofs.Placed.{writes_where, fault-writes, fine-writes}
+use Rattle.results.proofs.Placed.{writes_where, err-writes, fine-writes}
 use Rattle.image.specs.Image.{image_of, cabling_in}
 use Rattle.image.specs.Faults.{links_fault}
 use Rattle.image.proofs.Faults.{cabling-good, links-fine}
@@ -85,8 +85,8 @@ module _ (s : List ℕ) {first : FirstLine} (e : Some first ≡ one_in s) {t : L
 -- ---- the sheet of a links image
 
 module _ (b : List ℕ) (byte : AllBytes b) {before : List ℕ} where
-  pub sheet-refused : {r : Refusal} → links_fault b ≡ Err r → Sheets b before (Err r) before
-  sheet-refused e = record { writes = fault-writes e; bytes = byte }
+  pub sheet-refused : {r : Refusal} {answer : Written} → links_fault b ≡ Err r → answer ≡ Err r → Sheets b before answer before
+  sheet-refused e a = record { writes = err-writes e a; bytes = byte }
 
   -- its lines were laid into a blank buffer with room, and their bytes placed
   pub sheet-writes : {c : Cabling} {text after : List ℕ} {p : Page} {answer : Written} (blank : List ℕ) → links_fault b ≡ Ok tt → c ≡ cabling_in b

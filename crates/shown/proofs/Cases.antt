@@ -42,6 +42,10 @@ pub report-writes : {b : List ℕ} {f : Fabric} {pairs before : List ℕ} {p : P
     → Writes (image_fault b) (report_of (cabling_in b)) before (Ok p.at) p.bytes
 report-writes o l = fine-writes o.fine (ap report_of o.cabling) (lays-writes l)
 
+-- a refusal that is answered is the image's
+pub refused-as : {v : Verdict} {q : Refusal} {answer : Written} → v ≡ Err q → answer ≡ Err q → (r : Refusal) → answer ≡ Err r → v ≡ Err r
+refused-as {q = q} fault e r is = let same : q ≡ r = cc in fault ∙ ap Err same
+
 -- RULES 10.1: "On a refusal it prints only `refused`, number, place."
 pub show_prints : (b : List ℕ) {before after last : List ℕ} {x answer : Written} → longest_show ≤ length before → ((r : Refusal) → x ≡ Err r → image_fault b ≡ Err r)
     → Writes (image_fault b) (report_of (cabling_in b)) before x after → Told x after answer last → Writes (room_for longest_show before) (output_of b) before answer last

@@ -87,6 +87,7 @@ fn report_on(image: &[u8], out: &mut [u8]) -> Result<usize, Refusal>
 }
 
 // What is printed for this input, or 9 and nothing printed where the longest finds no room.
+// What a function that takes the call must say of it, by `F.post`, is longer than these lines that stand in each program.
 pub fn output(input: &[u8], out: &mut [u8]) -> Result<usize, Refusal>
     ensures { Writes (room_for longest_show out.old) (output_of input.now) out.old result out.new }
 {

@@ -1,8 +1,8 @@
 -- `drained::drain` meets its contract: the fault of the input, or the line of the drain's end.
-use Rattle.std.proofs.Common.{◌≡◌, ◌+◌, ◌≤◌, length, Err, sym, ◌∙◌, rules, arith}
+use Rattle.std.proofs.Common.{◌≡◌, ◌+◌, ◌≤◌, length, sym, ◌∙◌, rules, arith}
 use Rattle.laid.specs.Laid.{page}
 use Rattle.laid.proofs.Pieces.{lays_left}
-use Rattle.results.proofs.Placed.{fault-writes}
+use Rattle.results.proofs.Placed.{fault-writes, err-writes}
 use Rattle.lines.proofs.Whole.{lays-line}
 use Rattle.draining.specs.Drained.{drain_of}
 use Rattle.draining.proofs.Answers.{drain-verdict, drain-record}
@@ -24,8 +24,7 @@ returns-then-input-list c = let e = c.number_at-end.ensures.number in fault-writ
 pub returns-in_err-drained : goal.returns-in_err-drained
 returns-in_err-drained c =
     let a = (goal.at.returns-in_err-drained c).After-drain-drained in
-    let r : c.from_residual.result ≡ Err c.in_err-drained.field-0.0 = search rules in
-    rw r (fault-writes (fault-start _ (whole-at a) ∙ sym (drain-verdict _ _ _ _ (drained-at a)) ∙ c.in_err-drained.was))
+    err-writes (fault-start _ (whole-at a) ∙ sym (drain-verdict _ _ _ _ (drained-at a)) ∙ c.in_err-drained.was) (search rules)
 
 pub returns : goal.returns
 returns c =

@@ -1,8 +1,8 @@
 -- `route::route` meets its contract: the image, the two nodes, and then the route, placed.
-use Rattle.std.proofs.Common.{◌≡◌, Err, inl, inr, ◌∙◌, rules, arith}
+use Rattle.std.proofs.Common.{inl, inr, ◌∙◌, rules, arith}
 use mathlib.Core.Logic.{⊎_elim}
 use Rattle.refusal.proofs.Verdicts.{then-fault}
-use Rattle.results.proofs.Placed.{fault-writes, fine-writes}
+use Rattle.results.proofs.Placed.{fault-writes, fine-writes, err-writes}
 use Rattle.fabric.proofs.Making.{fault-made}
 use Rattle.laid.proofs.Pieces.{lays-front}
 use Rattle.route.proofs.Cases.{ends-refused, not-refused, Opened, opened}
@@ -15,8 +15,7 @@ image-fine c = opened _ c.open.ensures c.in_ok-f.was
 
 pub returns-in_err-f : goal.returns-in_err-f
 returns-in_err-f c =
-    let r : c.from_residual.result ≡ Err c.in_err-f.field-0.0 = search rules in
-    rw r (fault-writes (then-fault _ (fault-made _ c.open.ensures c.in_err-f.was)))
+    err-writes (then-fault _ (fault-made _ c.open.ensures c.in_err-f.was)) (search rules)
 
 pub returns-then-f-source : goal.returns-then-f-source
 returns-then-f-source c =

@@ -1,7 +1,7 @@
 -- `sheets::cable` meets its contract: the first line, the lines of links, and the links image of what they tell.
-use Rattle.std.proofs.Common.{◌≡◌, Err, refl, sym, ◌∙◌, rules}
+use Rattle.std.proofs.Common.{refl, sym, ◌∙◌, rules}
 use lib.Dec.{lit≤}
-use Rattle.results.proofs.Placed.{fault-writes}
+use Rattle.results.proofs.Placed.{fault-writes, err-writes}
 use Rattle.sheets.proofs.Cases.{cable_none, cable_bad, cable_writes}
 use Rattle.sheets.proofs.cable.Goals as goal
 
@@ -10,8 +10,7 @@ returns-in_default c = fault-writes (cable_none _ (sym c.in_default.is ∙ c.one
 
 pub returns-in_err-read : goal.returns-in_err-read
 returns-in_err-read c =
-    let r : c.from_residual.result ≡ Err c.in_err-read.field-0.0 = search rules in
-    rw r (fault-writes (cable_bad _ c.in-Some.ensures c.rest.ensures (c.read.ensures.holds _ c.new-pairs.ensures.blank refl) c.in_err-read.was))
+    err-writes (cable_bad _ c.in-Some.ensures c.rest.ensures (c.read.ensures.holds _ c.new-pairs.ensures.blank refl) c.in_err-read.was) (search rules)
 
 pub returns : goal.returns
 returns c =

@@ -1,13 +1,12 @@
 -- `sheets::sheet` meets its contract: the checks, the lines laid in a buffer of its own, and their bytes placed.
-use Rattle.std.proofs.Common.{◌≡◌, Err, sym, ◌∙◌, rules}
+use Rattle.std.proofs.Common.{sym, ◌∙◌, rules}
 use lib.Dec.{lit≤}
 use Rattle.sheets.proofs.Cases.{sheet-refused, sheet-writes}
 use Rattle.sheets.proofs.sheet.Goals as goal
 
 pub returns-in_err-links_verdict : goal.returns-in_err-links_verdict
 returns-in_err-links_verdict c =
-    let r : c.from_residual.result ≡ Err c.in_err-links_verdict.field-0.0 = search rules in
-    rw r (sheet-refused _ (λ i. (c.type_inv.image i).fits) (sym c.links_verdict.ensures ∙ c.in_err-links_verdict.was))
+    sheet-refused _ (λ i. (c.type_inv.image i).fits) (sym c.links_verdict.ensures ∙ c.in_err-links_verdict.was) (search rules)
 
 pub returns : goal.returns
 returns c =

@@ -1,14 +1,10 @@
 -- `shown::report` meets its contract: a node's line more, and all lines.
 use Rattle.std.proofs.Common.{refl, ◌∙◌, ap, rules, arith}
-use Rattle.rows.proofs.Grid.{square_le}
 use Rattle.fabric.specs.declared.Fabric.{Fabric}
 use Rattle.fabric.proofs.Parts.{free_part, falling-part}
 use Rattle.shown.proofs.Tables.{label-made, row_made}
 use Rattle.shown.proofs.Lines.{printed_begin, printed_next, printed_end}
 use Rattle.shown.proofs.report.Goals as goal
-
-pub overflow_mul-size : goal.overflow_mul-size
-overflow_mul-size c = let q = square_le c.args.f.now.nodes c.requires.good.few in omega arith
 
 pub loop-v-init : goal.loop-v-init
 loop-v-init c = record { same_buffer = refl; printed = printed_begin _ c.requires.good }

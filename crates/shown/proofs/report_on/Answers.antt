@@ -1,10 +1,10 @@
 -- `shown::report_on` meets its contract: the fault of the image, or the report on its fabric.
-use Rattle.std.proofs.Common.{◌≡◌, Err, ◌∙◌, ap, rules}
+use Rattle.std.proofs.Common.{rules}
 use Rattle.laid.specs.Laid.{page}
 use Rattle.laid.proofs.Pieces.{lays_left}
-use Rattle.results.proofs.Placed.{fault-writes}
+use Rattle.results.proofs.Placed.{err-writes}
 use Rattle.fabric.proofs.Making.{fault-made}
-use Rattle.shown.proofs.Cases.{Opened, opened, report-writes}
+use Rattle.shown.proofs.Cases.{Opened, opened, report-writes, refused-as}
 use Rattle.shown.proofs.report_on.Goals as goal
 use Rattle.shown.proofs.report_on.Goals.{After-pairs_in}
 
@@ -14,9 +14,8 @@ opened-at c = opened _ c.open.ensures c.in_ok-f.was c.pairs_in.ensures
 
 pub returns-in_err-f : goal.returns-in_err-f
 returns-in_err-f c =
-    let e : c.from_residual.result ≡ Err c.in_err-f.field-0.0 = search rules in
     let fault = fault-made _ c.open.ensures c.in_err-f.was in
-    record { writes = rw e (fault-writes fault); refused = λ r is. let q : c.in_err-f.field-0.0 ≡ r = cc in fault ∙ ap Err q }
+    record { writes = err-writes fault (search rules); refused = refused-as fault (search rules) }
 
 pub report-requires : goal.report-requires
 report-requires c = let o = opened-at (goal.at.report-requires c).After-pairs_in in record { good = o.good; made = o.fabric }

@@ -1,8 +1,8 @@
 -- `writing::build` meets its contract: the checks of a links image, and then its full image, laid in the buffer.
-use Rattle.std.proofs.Common.{rules, Err}
-use mathlib.Core.Path.{◌≡◌, sym, ◌∙◌, ap}
+use Rattle.std.proofs.Common.{rules}
+use mathlib.Core.Path.{sym, ◌∙◌, ap}
 use Rattle.fabric.proofs.Making.{fault-made, fine-made}
-use Rattle.results.proofs.Placed.{fault-writes, fine-writes}
+use Rattle.results.proofs.Placed.{fault-writes, fine-writes, err-writes}
 use Rattle.format.specs.Contents.{full_kinds}
 use Rattle.image.specs.Image.{image_of}
 use Rattle.image.proofs.Faults.{cabling-good, links-ordered, links-broken}
@@ -14,8 +14,7 @@ returns-then-not-in_order c = fault-writes (links-broken _ (sym c.in_order.ensur
 
 pub returns-in_err-f : goal.returns-in_err-f
 returns-in_err-f c =
-    let r : c.from_residual.result ≡ Err c.in_err-f.field-0.0 = search rules in
-    rw r (fault-writes (links-ordered _ (sym c.in_order.ensures ∙ c.if-not-in_order.false) ∙ fault-made _ c.make_in.ensures c.in_err-f.was))
+    err-writes (links-ordered _ (sym c.in_order.ensures ∙ c.if-not-in_order.false) ∙ fault-made _ c.make_in.ensures c.in_err-f.was) (search rules)
 
 pub full-requires : goal.full-requires
 full-requires c =

@@ -1,20 +1,19 @@
 -- `writing::write` meets its contract: the checks, and then the image, laid in the buffer.
-use Rattle.std.proofs.Common.{rules, Err}
-use mathlib.Core.Path.{◌≡◌, refl, sym, ◌∙◌, ap, ap₂}
+use Rattle.std.proofs.Common.{rules}
+use mathlib.Core.Path.{refl, sym, ◌∙◌, ap, ap₂}
 use mathlib.Core.Bool.{Bool}
 use Prim.Native.Nat.{ℕ}
 use Rattle.cabling.specs.Cabling.{Cabling, cabled}
 use Rattle.cabling.proofs.Meaning.{fault-fine}
 use Rattle.fabric.proofs.Making.{fault-made, fine-made}
-use Rattle.results.proofs.Placed.{fault-writes, fine-writes}
+use Rattle.results.proofs.Placed.{fine-writes, err-writes}
 use Rattle.image.specs.Image.{image_of, kinds_of}
 use Rattle.fabric.proofs.Parts.{cabling_of, full-asks}
 use Rattle.writing.proofs.write.Goals as goal
 
 pub returns-in_err-f : goal.returns-in_err-f
 returns-in_err-f c =
-    let r : c.from_residual.result ≡ Err c.in_err-f.field-0.0 = search rules in
-    rw r (fault-writes (fault-made _ c.make.ensures c.in_err-f.was))
+    err-writes (fault-made _ c.make.ensures c.in_err-f.was) (search rules)
 
 pub full-requires : goal.full-requires
 full-requires c =
@@ -30,8 +29,7 @@ returns-then-full c =
 
 pub returns-in_err-fault : goal.returns-in_err-fault
 returns-in_err-fault c =
-    let r : c.from_residual-in_err-fault.result ≡ Err c.in_err-fault.field-0.0 = search rules in
-    rw r (fault-writes (sym c.fault.ensures ∙ c.in_err-fault.was))
+    err-writes (sym c.fault.ensures ∙ c.in_err-fault.was) (search rules)
 
 pub links-requires : goal.links-requires
 links-requires c = (fault-fine _).0 (sym c.fault.ensures ∙ c.in_ok-fault.was)

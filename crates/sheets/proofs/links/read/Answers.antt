@@ -1,10 +1,7 @@
 -- `sheets::links::read` meets its contract: a line more, a line that is none, or no line left.
-use Rattle.std.proofs.Common.{refl, sym, ◌∙◌, rules, arith}
-use Rattle.sheets.proofs.Reading.{lines_read_begin, lines_read_more, lines_read_bad, lines_read_end, found-bytes, found-less}
+use Rattle.std.proofs.Common.{sym, ◌∙◌, rules, arith}
+use Rattle.sheets.proofs.Reading.{lines_read_more, lines_read_bad, lines_read_end, found-bytes, found-less}
 use Rattle.sheets.proofs.links.read.Goals as goal
-
-pub loop-left-init : goal.loop-left-init
-loop-left-init c = record { same_buffer = refl; few = omega arith; told = λ b p even. rw p (lines_read_begin _ b even) }
 
 pub returns-in_default-clause-holds : goal.returns-in_default-clause-holds
 returns-in_default-clause-holds c = λ b p even.
