@@ -13,6 +13,6 @@ use Rattle.labels.proofs.choice.Given as goal
 
 abbrev pub invariant-loop-v : goal.invariant-loop-v
 invariant-loop-v l =
-    Searching max_nodes (suc max_nodes) (λ u. count max_nodes (edge_of l.t u)) (candidate_by max_nodes (edge_of l.t) (has (members l.w))) (members l.v-iterator.left)
-    (known (suc max_nodes) max_nodes l.best)
+    Searching max_nodes (suc max_nodes) (λ u. count max_nodes (edge_of l.t u)) (candidate_by max_nodes (edge_of l.t) (has (members l.w)))
+    (members l.v-iterator.left) (known (suc max_nodes) max_nodes l.best)
     × ((u : ℕ) → has (members l.v-iterator.left) u ≡ true → has (members l.w) u ≡ true)

@@ -10,4 +10,5 @@ use Rattle.turns.proofs.those.Given as goal
 abbrev pub invariant-loop-u : goal.invariant-loop-u
 invariant-loop-u g l =
     (members l.u-iterator.left < 2 ^ max_nodes)
-    × ((test : ℕ → Bool) → ((u : ℕ) (b : Bool) → goal.F-post g l.passes u b → b ≡ test u) → Sifting test (members l.w) (members l.found) (members l.u-iterator.left))
+    × ((test : ℕ → Bool) → ((u : ℕ) (b : Bool) → goal.F-post g l.passes u b → b ≡ test u)
+    → Sifting test (members l.w) (members l.found) (members l.u-iterator.left))
