@@ -11,13 +11,14 @@ use Rattle.refusal.specs.declared.Refusal.{Refusal}
 use Rattle.cabling.specs.Cabling.{Cabling, cabled, Good}
 use Rattle.fabric.specs.declared.Fabric.{Fabric}
 use Rattle.fabric.specs.Fabric.{fabric_of, made_by}
-use Rattle.fabric.proofs.Making.{fine-made}
+use Rattle.fabric.proofs.Making.{fault-made, fine-made}
 use Rattle.laid.specs.Laid.{Page}
 use Rattle.laid.specs.Lays.{Lays}
+use Rattle.laid.proofs.Pieces.{lays_as}
 use Rattle.results.proofs.Placed.{fine-writes, lays-writes}
 use Rattle.results.specs.Written.{Writes, room_for, Written}
-use Rattle.lines.specs.Lines.{or_refused, Told}
-use Rattle.lines.proofs.Printed.{told_prints}
+use Rattle.lines.specs.Lines.{refusal_line, longest_refusal, or_refused, Told}
+use Rattle.lines.proofs.Printed.{lays-prints, fault-prints, told_prints}
 use Rattle.format.specs.Contents.{pairs_in}
 use Rattle.image.specs.Image.{image_of, kinds_of, cabling_in}
 use Rattle.image.specs.Faults.{image_fault}
@@ -42,11 +43,23 @@ pub report-writes : {b : List ℕ} {f : Fabric} {pairs before : List ℕ} {p : P
     → Writes (image_fault b) (report_of (cabling_in b)) before (Ok p.at) p.bytes
 report-writes o l = fine-writes o.fine (ap report_of o.cabling) (lays-writes l)
 
+-- RULES 10.1: "On a refusal it prints only `refused`, number, place."
+pub shown_refused : (b : List ℕ) {m : Result Fabric Refusal} → m ≡ made_by (image_fault b) (cabling_in b) → {before after : List ℕ} {r : Refusal} {answer : Written}
+    → longest_show ≤ length before → m ≡ Err r → Writes (room_for longest_refusal before) (refusal_line r) before answer after
+    → Writes (room_for longest_show before) (output_of b) before answer after
+unfolding output_of
+shown_refused b e room v w = fault-prints (report_of (cabling_in b)) room (fault-made (cabling_in b) e v) (lit≤ tt) w
+
+pub shown_report : {b : List ℕ} {f : Fabric} {pairs before : List ℕ} {p : Page} → longest_show ≤ length before → Opened b f pairs
+    → Lays before p (report_of (cabled f.nodes pairs)) → Writes (room_for longest_show before) (output_of b) before (Ok p.at) p.bytes
+unfolding output_of
+shown_report {b} room o l = lays-prints (report_of (cabling_in b)) room o.fine (lays_as l (ap report_of o.cabling))
+
 -- a refusal that is answered is the image's
 pub refused-as : {v : Verdict} {q : Refusal} {answer : Written} → v ≡ Err q → answer ≡ Err q → (r : Refusal) → answer ≡ Err r → v ≡ Err r
 refused-as {q = q} fault e r is = let same : q ≡ r = cc in fault ∙ ap Err same
 
--- RULES 10.1: "On a refusal it prints only `refused`, number, place."
+-- what is told of a call that writes the report
 pub show_prints : (b : List ℕ) {before after last : List ℕ} {x answer : Written} → longest_show ≤ length before → ((r : Refusal) → x ≡ Err r → image_fault b ≡ Err r)
     → Writes (image_fault b) (report_of (cabling_in b)) before x after → Told x after answer last → Writes (room_for longest_show before) (output_of b) before answer last
 unfolding output_of
