@@ -70,7 +70,7 @@ fn report(f: &Fabric, pairs: &[u8], out: &mut Page<'_>)
             v,
             0,
         );
-        node_line(out, v, slices::byte_at(&f.labels, v), row);
+        node_line(out, v, usize::from(slices::byte(&f.labels, v)), row);
     }
 }
 

@@ -18,13 +18,6 @@ pub fn byte(s: &[u8], i: usize) -> u8
     get(s, i, 0)
 }
 
-// The same as a number that can be reckoned with.
-pub fn byte_at(s: &[u8], i: usize) -> usize
-    ensures { result ≡ get_or s.now i 0 }
-{
-    usize::from(byte(s, i))
-}
-
 // Puts x at place i, where there is such a place. (`get_mut` of the library does not say what the slice ends as.)
 pub fn put<T: Copy>(s: &mut [T], i: usize, x: T)
     ensures { s.new ≡ set s.old i x }

@@ -16,7 +16,7 @@ loop-v-preserved c =
     let e = c.requires.made in
     record {
       same_buffer = search rules;
-      printed = printed_next c.loop-v.invariant.printed k (c.byte_at.ensures ∙ label-made g (ap (λ (f : Fabric). f.labels) e) _)
+      printed = printed_next c.loop-v.invariant.printed k (c.from.ensures ∙ c.byte.ensures ∙ label-made g (ap (λ (f : Fabric). f.labels) e) _)
           (row_made g (c.front.ensures ∙ free_part _ e) (c.front-in-loop-v.ensures ∙ falling-part _ e) k c.row-row.ensures) c.node_line.ensures.laid;
     }
 
