@@ -8,7 +8,6 @@ ghost use Rattle.format.specs.Contents.{number_at};
 ghost use Rattle.results.specs.Written.{Writes, room_for};
 ghost use Rattle.drained.specs.Drains.{input_fault, drained_line, end_in, longest_drain, output_of};
 
-use format::HALF_WORD;
 use laid::Page;
 use refusal::Refusal;
 
@@ -17,12 +16,10 @@ pub const LONGEST: usize = 7 + 2 * (1 + 21) + 1;
 
 // The seed in four bytes from place `at` on, low byte first.
 fn seed_at(input: &[u8], at: usize) -> u32
-    requires { at < 2 + half_word }
+    requires { at + 4 ≤ length input.now }
     ensures { result ≡ number_at input.now at + half_word * number_at input.now (at + 2) }
 {
-    let low = format::number_at(input, at);
-    let high = format::number_at(input, at + 2);
-    (low + HALF_WORD * high) as u32
+    u32::from_le_bytes([input[at], input[at + 1], input[at + 2], input[at + 3]])
 }
 
 // The line of the drain that the input asks for, or its first fault.

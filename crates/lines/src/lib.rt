@@ -50,7 +50,7 @@ pub fn line(out: &mut Page<'_>, first: &[u8], numbers: &[usize])
     rest(out, numbers);
 }
 
-// A line that begins with a number.
+// A line that begins with a number. (A trait for the two beginnings would be longer than both functions.)
 pub fn number_line<T: Copy + Into<usize>>(out: &mut Page<'_>, first: usize, numbers: &[T])
     ensures same_buffer { out.new.bytes.ghost_name ≡ out.old.bytes.ghost_name }
     ensures laid { (n : T → ℕ) → ConvertsBy T.converts n → page_of out.new ≡ with_line (page_of out.old) (decimal_of first) (map n numbers.now) }
