@@ -4,7 +4,7 @@ use mathlib.Core.Bool.{true, false}
 use mathlib.Core.List.{List, [], ◌∷◌}
 use Prim.Native.Nat.{ℕ, zero, suc, ◌*◌, ◌≤◌, ◌<◌, min}
 use native.Mathlib.Omega.{arith}
-use Rattle.std.specs.Prelude.{Some, None, Ok, Err}
+use Rattle.std.specs.Prelude.{Err}
 use lib.ListN.{length, get_or, take}
 use Rattle.finite.specs.Truth.{◌or◌, same, below}
 use Rattle.finite.proofs.Truth.{no_tf, bcase, refute, both, and_l, and_r, or_l, or_r, or_false, same-eq, eq-same, ne_same, same_refl, below-lt, lt-below, le_below}
@@ -12,7 +12,6 @@ use Rattle.lawful.specs.Turn.{label_in}
 use Rattle.lawful.specs.Entry.{none}
 use Rattle.nodes.specs.Limits.{max_nodes}
 use Rattle.refusal.specs.declared.Refusal.TheVariants.{Unknown}
-use Rattle.hops.specs.declared.Hop.{Hop}
 use Rattle.hops.specs.Row.{row_known, row_in}
 use Rattle.hops.specs.Hop.{HopAnswer, Next, NoWay, stored_in, class_after, onward_of, hop_known, hop_in, hop_within, has_next, walk_by}
 use Rattle.hops.proofs.Lookup.{row-refused, row-length}

@@ -1,11 +1,8 @@
 -- `hops::known` meets its contract: each test finds one fault.
 use mathlib.Core.Path.{sym}
-use Prim.Native.Nat.{◌≤◌}
-use native.Mathlib.Nat.{mul-le-mul}
 use native.Mathlib.Omega.{arith}
 use borrow.Author.Tests.{leb-true, le-leb}
 use Rattle.finite.proofs.Truth.{iff}
-use Rattle.nodes.specs.Limits.{max_nodes}
 use Rattle.hops.specs.Row.{few, many, free-size, falling-size, no_node}
 use Rattle.hops.proofs.Lookup.{fault-unknown, known_faultless, faultless_known}
 use Rattle.hops.proofs.known.Goals as goal
@@ -15,12 +12,6 @@ returns-then-n-lt2 c = sym (fault-unknown _ _ _ _ _ (few (omega arith)))
 
 pub returns-then-n-gt-MAX_NODES : goal.returns-then-n-gt-MAX_NODES
 returns-then-n-gt-MAX_NODES c = sym (fault-unknown _ _ _ _ _ (many (omega arith)))
-
-pub overflow_mul-n : goal.overflow_mul-n
-overflow_mul-n c =
-    let few : c.args.n ≤ max_nodes = omega arith in
-    let b = mul-le-mul few few in
-    omega arith
 
 pub returns-then-free-n : goal.returns-then-free-n
 returns-then-free-n c = sym (fault-unknown _ _ _ _ _ (free-size c.if-free-n.true))

@@ -4,21 +4,15 @@ use native.Mathlib.Nat.{le_refl}
 use native.Mathlib.Omega.{arith}
 use Rattle.messages.specs.Step.{released}
 use Rattle.machine.specs.InPlace.{given_back}
-use Rattle.finite.proofs.Filling.{filling_none, filling_more, filling_rest}
+use Rattle.finite.proofs.Filling.{filling_more, filling_rest}
 use Rattle.machine.proofs.InPlace.{left_below, left-from}
 use Rattle.machine.proofs.channels.release.Goals as goal
-
-pub loop-c-init : goal.loop-c-init
-loop-c-init c = (filling_none _ _, refl)
 
 pub loop-c-preserved : goal.loop-c-preserved
 loop-c-preserved c =
     let inv = c.loop-c.invariant in
     let more = filling_more _ inv.0 (omega arith) (c.left.ensures ∙ ap (released _) (inv.0.ahead _ (le_refl _)) ∙ sym (left_below _ _ _ _ (omega arith))) in
     (more, more.size)
-
-pub shape_of-holders : goal.shape_of-holders
-shape_of-holders c = c.loop-c.invariant.1
 
 pub returns : goal.returns
 unfolding given_back
