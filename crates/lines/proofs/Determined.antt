@@ -8,7 +8,7 @@ use Rattle.laid.proofs.Determined.{page_determined}
 use Rattle.refusal.specs.declared.Refusal.{Refusal}
 use Rattle.results.specs.Written.{Writes, room_for, Written}
 use Rattle.results.proofs.Determined.{writes_determined}
-use Rattle.lines.specs.Lines.{with_field, with_fields, with_line, refusal_line, longest_refusal, Told}
+use Rattle.lines.specs.Lines.{with_field, with_fields, with_rest, with_line, refusal_line, longest_refusal, Told}
 
 module _ (p : Page) {b c : List ℕ} {r s : ℕ} where
   pub field_determined : (n : ℕ) → page b r ≡ with_field p n → page c s ≡ with_field p n → (b ≡ c) × (r ≡ s)
@@ -16,6 +16,9 @@ module _ (p : Page) {b c : List ℕ} {r s : ℕ} where
 
   pub fields_determined : (ns : List ℕ) → page b r ≡ with_fields p ns → page c s ≡ with_fields p ns → (b ≡ c) × (r ≡ s)
   fields_determined ns = page_determined
+
+  pub rest_determined : (ns : List ℕ) → page b r ≡ with_rest p ns → page c s ≡ with_rest p ns → (b ≡ c) × (r ≡ s)
+  rest_determined ns = page_determined
 
   pub line_determined : (first ns : List ℕ) → page b r ≡ with_line p first ns → page c s ≡ with_line p first ns → (b ≡ c) × (r ≡ s)
   line_determined first ns = page_determined
