@@ -60,6 +60,7 @@ pub fn route(
     }
     let mut nodes = [0u8; ROOM];
     let mut out = Page::new(&mut nodes);
+    // both are nodes, so the casts keep them
     followed(&f, source as u8, destination as u8, &mut out);
     results::place(out.laid(), buffer)
 }

@@ -1,4 +1,5 @@
 // The bytes of an image, laid in a lent buffer piece by piece. Their number is known before the first is written.
+// Each cast keeps its number, as is proved; `try_from` would bring a refusal that no rule knows.
 ghost use Rattle.std.specs.Prelude.{◌≡◌, ◌≤◌, length};
 ghost use Rattle.nodes.specs.Limits.{max_nodes};
 ghost use Rattle.cabling.specs.Cabling.{cabled, Good};
