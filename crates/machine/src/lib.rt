@@ -134,7 +134,7 @@ pub fn step_in<'a>(lent: &mut Lent<'a>, span: usize, message: usize) -> Result<A
     Ok(Answer::Moved)
 }
 
-// Would a move of a message succeed?
+// Would a move of a message succeed? It asks for these three arrays alone: a struct of what is lent would ask for more.
 pub fn is_ready(wants: &[u16], delivered: &[u8], holders: &[u16], message: usize) -> bool
     ensures { result ≡ ready_at wants.now delivered.now holders.now message }
 {

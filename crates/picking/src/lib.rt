@@ -60,7 +60,7 @@ fn found(seed: u32, messages: usize, wants: &[u16], delivered: &[u8], holders: &
     }
 }
 
-// The next seed, where it says to look, and the move, in place, of the message that is found there. One that is delivered gives back only channels below `span`.
+// The next seed, where it says to look, and the move, in place, of the message found there. One that is delivered gives back only channels below `span`.
 pub fn pick_in<'a>(seed: u32, lent: &mut Lent<'a>, span: usize) -> PickedIn
     ensures pick { picked result.seed result.look result.message (made_of lent.new) ≡ pick_in span seed (made_of lent.old) }
     ensures lent { StaysLent lent.old lent.new }

@@ -14,7 +14,7 @@ use machine::Lent;
 use messages::{MAX_CHANNELS, MAX_MESSAGES, MAX_PAIRS, Record, Stepped};
 use nodes::MAX_NODES;
 
-// One move of a message: its answer, and the record after it.
+// One move of a message: its answer, and the record after it. By value, as docs/RULES.md (12.1) asks; over it there is lent::advance.
 pub fn step(record: Record, message: usize) -> Stepped
     ensures { result ≡ step_of «record» message }
 {

@@ -9,6 +9,7 @@ use messages::{MAX_LIST, Record};
 use refusal::Refusal;
 
 // What start answers: the verdict, and the record: fresh, or as it was where the call is refused.
+// No Result of a record: a refused start hands the record back too.
 #[derive(Clone, Copy)]
 pub struct Started {
     pub verdict: Result<(), Refusal>,
