@@ -1,20 +1,18 @@
 // Bytes laid one behind the other into a lent buffer.
 #![tactic(auto)]
 
-ghost use Rattle.std.specs.Prelude.{◌≡◌, ◌≤◌, [], ◌∷◌, length, take};
+ghost use Rattle.std.specs.Prelude.{◌≡◌, [], ◌∷◌, take};
 ghost use Rattle.laid.specs.Laid.{page, behind};
+ghost use Rattle.laid.specs.Lent.{page_of};
 
 // A lent buffer, and the place up to which it is laid.
 #[derive(Drop)]
 pub struct Page<'a> {
     pub bytes: &'a mut [u8],
     pub at: usize,
-    ghost inside: { at ≤ length bytes.now },
 }
 
 impl<'a> Page<'a> {
-    ghost use Rattle.laid.specs.Lent.{page_of};
-
     // Nothing is laid yet.
     pub fn new(bytes: &'a mut [u8]) -> Page<'a>
         ensures same_buffer { result.bytes.ghost_name ≡ bytes.entry.ghost_name }
@@ -28,7 +26,7 @@ impl<'a> Page<'a> {
         ensures same_buffer { self.new.bytes.ghost_name ≡ self.old.bytes.ghost_name }
         ensures laid { page_of self.new ≡ behind (page_of self.old) bytes.now }
     {
-        if self.bytes.len() - self.at < bytes.len() {
+        if self.bytes.len() < self.at || self.bytes.len() - self.at < bytes.len() {
             return;
         }
         let end = self.at + bytes.len();
@@ -48,6 +46,6 @@ impl<'a> Page<'a> {
     pub fn laid(&self) -> &[u8]
         ensures { result.now ≡ take self.now.at self.now.bytes.now }
     {
-        &self.bytes[..self.at]
+        &self.bytes[..self.at.min(self.bytes.len())]
     }
 }
