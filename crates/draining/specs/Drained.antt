@@ -1,6 +1,5 @@
 -- RULES 10.4: "Moves go on until every message is delivered."
 use Rattle.std.specs.Prelude.{◌≡◌, true, false, List, ℕ, zero, suc}
-use Rattle.refusal.specs.Verdicts.{Verdict}
 use Rattle.cabling.specs.Cabling.{links}
 use Rattle.fabric.specs.Fabric.{labels_for}
 use Rattle.format.specs.Contents.{nodes_in}
@@ -32,10 +31,6 @@ pub record PicksIn (span seed : ℕ) (old : Record) (next : ℕ) (new : Record) 
 unfoldable pub end_of : List ℕ → List ℕ → ℕ → Record
 end_of b list seed = after (sum_of b list) seed (fresh_of b list)
 
--- a verdict beside a record
-abbrev pub ended : Verdict → Record → Drained
-ended verdict r = record { verdict = verdict; «record» = r }
-
 -- refused as start is, with the old record as it was
 unfoldable pub drain_of : Record → List ℕ → List ℕ → ℕ → Drained
-drain_of old b list seed = ended (start_fault b list) (record_after (start_fault b list) old (end_of b list seed))
+drain_of old b list seed = record { verdict = start_fault b list; «record» = record_after (start_fault b list) old (end_of b list seed) }

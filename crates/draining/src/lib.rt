@@ -2,7 +2,8 @@
 #![tactic(auto)]
 
 ghost use Rattle.std.specs.Prelude.{◌≡◌};
-ghost use Rattle.draining.specs.Drained.{PicksIn, ended, drain_of};
+ghost use Rattle.start.specs.Start.{start_fault, fresh_by};
+ghost use Rattle.draining.specs.Drained.{PicksIn, end_of, drain_of};
 
 use hops::Tables;
 use machine::Lent;
@@ -41,28 +42,31 @@ fn pick(record: &mut Record, seed: u32, span: usize) -> u32
     picked.seed
 }
 
-// Starts the machine in the record that is lent, and moves messages until every one is delivered.
-fn run(record: &mut Record, image: &[u8], list: &[u8], seed: u32) -> Result<(), Refusal>
-    ensures { ended result «record».new ≡ drain_of «record».old image.now list.now seed }
+// The record once every message is delivered, or the first fault of its start. No channel is held but those of the N nodes, so those behind are not looked at.
+fn end(image: &[u8], list: &[u8], seed: u32) -> Result<Record, Refusal>
+    ensures { result ≡ fresh_by (start_fault image.now list.now) (end_of image.now list.now seed) }
 {
-    *record = start::fresh(image, list)?;
-    // No channel is held but those of the N nodes, so those behind are not looked at.
-    let span = NODE_CHANNELS * nodes::capped(record.nodes);
+    let mut last = start::fresh(image, list)?;
+    let span = NODE_CHANNELS * nodes::capped(last.nodes);
     let mut next = seed;
-    while !machine::all_delivered_in(record.messages, &record.delivered) {
-        next = pick(record, next, span);
+    while !machine::all_delivered_in(last.messages, &last.delivered) {
+        next = pick(&mut last, next, span);
     }
-    Ok(())
+    Ok(last)
 }
 
-// The same by value.
+// Starts the machine, and moves messages until every one is delivered.
 pub fn drain(record: Record, image: &[u8], list: &[u8], seed: u32) -> Drained
     ensures { result ≡ drain_of «record» image.now list.now seed }
 {
-    let mut last = record;
-    let verdict = run(&mut last, image, list, seed);
-    Drained {
-        verdict,
-        record: last,
+    match end(image, list, seed) {
+        Ok(last) => Drained {
+            verdict: Ok(()),
+            record: last,
+        },
+        Err(r) => Drained {
+            verdict: Err(r),
+            record,
+        },
     }
 }

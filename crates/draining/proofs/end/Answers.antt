@@ -1,0 +1,50 @@
+-- `draining::end` meets its contract, and ends: each pick leaves one move less to make of demand 3's sum.
+use Rattle.std.specs.Prelude.{Ok, Err}
+use mathlib.Core.Path.{◌≡◌, sym, ◌∙◌}
+use Prim.Native.Nat.{◌*◌, min}
+use native.Mathlib.Omega.{arith}
+use borrow.Author.Rules.{rules}
+use Rattle.nodes.specs.Limits.{max_nodes}
+use Rattle.messages.specs.Sizes.{node_channels}
+use Rattle.messages.specs.Step.{is_delivered}
+use Rattle.messages.specs.Ready.{all_delivered}
+use Rattle.start.specs.Start.{start_fault, fresh_of}
+use Rattle.start.proofs.Cases.{fine-fresh}
+use Rattle.draining.proofs.Answers.{fault_ends, fine_ends}
+use Rattle.draining.proofs.Running.{running_fresh, running_all, runs_on, fewer_left}
+use Rattle.draining.proofs.end.Goals as goal
+use Rattle.draining.proofs.end.Goals.{After-capped-span}
+
+-- what the start leaves
+begins : (c : After-capped-span) → (start_fault c.args.image.now c.args.list.now ≡ Ok tt) × (c.in_ok-last.last ≡ fresh_of c.args.image.now c.args.list.now)
+begins c = fine-fresh _ _ (sym c.fresh.ensures ∙ c.in_ok-last.was)
+
+spans : (c : After-capped-span) → 66 * c.capped-span.result ≡ node_channels * min (fresh_of c.args.image.now c.args.list.now).nodes max_nodes
+spans c = let e = c.capped-span.ensures in rw (← (begins c).1) (omega arith)
+
+pub returns-in_err-last : goal.returns-in_err-last
+returns-in_err-last c =
+    let r : c.from_residual.result ≡ Err c.in_err-last.field-0.0 = search rules in
+    r ∙ fault_ends _ _ _ c.fresh.ensures c.in_err-last.was
+
+pub loop-last-init : goal.loop-last-init
+loop-last-init c = let b = begins c in rw b.1 (running_fresh _ _ b.0 _)
+
+pub loop-last-smaller : goal.loop-last-smaller
+unfolding all_delivered is_delivered
+loop-last-smaller c =
+    let a = (goal.at.loop-last-smaller c).After-capped-span in
+    fewer_left _ _ (begins a).0 c.loop-last.invariant (spans a) c.pick-next.ensures (sym c.all_delivered_in.ensures ∙ c.loop-last-test.true)
+
+pub loop-last-preserved : goal.loop-last-preserved
+unfolding all_delivered is_delivered
+loop-last-preserved c =
+    let a = (goal.at.loop-last-preserved c).After-capped-span in
+    runs_on _ _ (begins a).0 c.loop-last.invariant (spans a) c.pick-next.ensures (sym c.all_delivered_in.ensures ∙ c.loop-last-test.true)
+
+pub returns : goal.returns
+unfolding all_delivered is_delivered
+returns c =
+    let a = (goal.at.returns c).After-capped-span in
+    let b = begins a in
+    fine_ends _ _ _ b.0 (running_all _ _ b.0 c.loop-last.invariant (sym c.all_delivered_in.ensures ∙ c.loop-last-test.false))
