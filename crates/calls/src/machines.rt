@@ -98,8 +98,10 @@ fn played(record: &mut Record, round: Round) {
 // Are these whole rounds, one or more, to the end?
 fn whole(mut args: Arguments) -> Option<()> {
     Round::take(&mut args)?;
-    while Round::take(&mut args).is_some() {}
-    args.end()
+    while args.end().is_none() {
+        Round::take(&mut args)?;
+    }
+    Some(())
 }
 
 // The rounds one after the other, all on one record: what follows the first shows a start on a used record.

@@ -2,5 +2,5 @@
 use Rattle.std.proofs.Common.{length}
 use Rattle.calls.proofs.machines.whole.Given as goal
 
-abbrev pub decreases-loop : goal.decreases-loop
-decreases-loop l = length l.args.left.now
+abbrev pub decreases-loop-args : goal.decreases-loop-args
+decreases-loop-args l = length l.args.left.now
