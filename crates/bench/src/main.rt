@@ -6,6 +6,7 @@
 fn builds(links: &[u8], repeats: u32) -> usize {
     let mut buffer = [0u8; image::LONGEST + 1];
     let mut last = 0;
+    // `as`: the library has no `usize: From<u32>`.
     for i in 0..repeats {
         let room = image::LONGEST + (i % 2) as usize;
         last = writing::build(links, &mut buffer[..room]).unwrap_or(0);

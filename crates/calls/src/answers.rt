@@ -9,6 +9,7 @@ pub fn word(w: &[u8]) {
     io::write_all(1, w);
 }
 
+// (`as`: the library has no `u64: From<usize>`.)
 fn number(n: usize) {
     io::print_decimal(1, n as u64);
 }

@@ -49,7 +49,7 @@ impl<'a> Arguments<'a> {
         Some(u32::from_le_bytes(self.array()?))
     }
 
-    // A number of 64 bits, low byte first.
+    // A number of 64 bits, low byte first. (`as`, here and below: the library has no `usize: From` of it.)
     pub fn long(&mut self) -> Option<usize> {
         Some(u64::from_le_bytes(self.array()?) as usize)
     }

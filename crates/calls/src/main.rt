@@ -13,7 +13,7 @@ use arguments::Arguments;
 // As much as is read.
 const ROOM: usize = 131072;
 
-// Makes the call of that number: none where there is no such call, or these are not its arguments.
+// Makes the call of that number: none where there is no such call, or these are not its arguments. A match: the number is the input's.
 fn call(selector: u8, args: Arguments) -> Option<()> {
     match selector {
         0 => tables::entry(args),

@@ -22,7 +22,7 @@ step_determined old x y r s p q =
     let e = p ∙ sym q in
     (ap (λ (z : Option Entry × Reader). z.0) e, ap (λ (z : Option Entry × Reader). z.1) e)
 
--- so are two answers of the step of a reader that is made for it
+-- the same of a step on a reader that is made for one step
 pub stepped_determined : (b : List ℕ) (i : ℕ) (x y : Found) → x ≡ found_at b i → y ≡ found_at b i → x ≡ y
 stepped_determined = step-at_determined
 

@@ -15,7 +15,7 @@ pub struct Reader<'a> {
 }
 
 // What a step finds: the entry, where there is one, and the number of the next one.
-#[derive(Clone, Copy, Debug, PartialEq, Eq)]
+#[derive(Clone, Copy)]
 pub struct Found {
     pub entry: Option<Entry>,
     pub next: usize,
@@ -72,6 +72,7 @@ pub fn in_order(image: &[u8], k: usize) -> bool
     }
     let mut reader = Reader::new(image);
     let mut begin = 2 + 6 * k;
+    // By number: the entry that is due is of kind i + 1.
     for i in 0..k {
         let Some(entry) = reader.step() else {
             return false;

@@ -1,5 +1,5 @@
 -- What a cabling becomes: its labels and its rows, computed at the width of its own N; and the struct that holds them.
-use Rattle.std.specs.Prelude.{Bool, true, false, List, ℕ, Result, Ok, Err}
+use Rattle.std.specs.Prelude.{Bool, true, false, List, ℕ, replicate, Result, Ok, Err}
 use Rattle.finite.specs.Lists.{padded}
 use Rattle.nodes.specs.Limits.{max_nodes}
 use Rattle.refusal.specs.declared.Refusal.{Refusal}
@@ -35,6 +35,10 @@ fabric_of c = record {
   free = padded table_size (rows_for c true);
   falling = padded table_size (rows_for c false);
 }
+
+-- the fabric of no nodes
+unfoldable pub bare_fabric : Fabric
+bare_fabric = record { nodes = 0; labels = replicate max_nodes 0; free = replicate table_size 0; falling = replicate table_size 0 }
 
 -- what a verdict makes of a cabling: its fabric, or the fault
 unfoldable pub made_by : Verdict → Cabling → Result Fabric Refusal

@@ -3,7 +3,7 @@
 
 ghost use Rattle.std.specs.Prelude.{◌≡◌};
 ghost use Rattle.cabling.specs.Cabling.{cabled, Good};
-ghost use Rattle.fabric.specs.Fabric.{fabric_of, made_of};
+ghost use Rattle.fabric.specs.Fabric.{fabric_of, bare_fabric, made_of};
 
 use cabling::Cabling;
 use nodes::MAX_NODES;
@@ -17,6 +17,20 @@ pub struct Fabric {
     pub labels: [u8; MAX_NODES],
     pub free: [u8; TABLE],
     pub falling: [u8; TABLE],
+}
+
+// The fabric of no nodes, for who holds one before any is made.
+pub fn bare() -> Fabric
+    ensures { result ≡ bare_fabric }
+{
+    let labels = [0u8; MAX_NODES];
+    let rows = [0u8; TABLE];
+    Fabric {
+        nodes: 0,
+        labels,
+        free: rows,
+        falling: rows,
+    }
 }
 
 // The fabric of a good cabling.

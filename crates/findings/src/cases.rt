@@ -25,7 +25,7 @@ fn tree(n: u8, in_a_path: bool, out: &mut Page<'_>)
     }
 }
 
-// 513 pairs in rising order: from node 0 to nodes 32 to 63, from node 1 to the same, ..
+// 513 pairs in rising order: from node 0 to nodes 32 to 63, from node 1 to the same, .. (`as`: all are below 64.)
 fn many(out: &mut Page<'_>) {
     head(64, 513, out);
     for k in 0..513usize {

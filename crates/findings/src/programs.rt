@@ -19,7 +19,7 @@ pub fn say_shown(image: &[u8]) {
     say(|out| shown::output(image, out));
 }
 
-// RULES 10.4: "an image's length (16 bits, low byte first), the image, a seed of 32 bits (low byte first) and pairs", for seed 0
+// RULES 10.4: "an image's length (16 bits, low byte first), the image, a seed of 32 bits (low byte first) and pairs", for seed 0. (`as`: 16 bits are left of the length.)
 fn for_drain(image: &[u8], messages: &[u8], out: &mut Page<'_>) {
     let size = (image.len() % format::HALF_WORD) as u16;
     out.put(&size.to_le_bytes());

@@ -18,7 +18,7 @@ pub const MAX_IMAGE: usize = 65535;
 pub const HALF_WORD: usize = 65536;
 
 // A contents entry as stored.
-#[derive(Clone, Copy, Debug, PartialEq, Eq)]
+#[derive(Clone, Copy)]
 pub struct Entry {
     pub kind: u8,
     pub second: u8,
@@ -57,7 +57,7 @@ pub fn entry_at(image: &[u8], number: usize) -> Option<Entry>
     })
 }
 
-// The low 16 bits of a number, low byte first.
+// The low 16 bits of a number, low byte first. (`as`: that many are left.)
 fn low_high(x: usize) -> [u8; 2]
     ensures { result ≡ low_high x }
 {

@@ -49,7 +49,7 @@ pub fn row<'a>(free: &'a [u8], falling: &'a [u8], n: usize, node: usize, class: 
     }
 }
 
-// A hop: the next node, and the class to use there.
+// A hop: the next node, and the class to use there, 0 free or 1 falling (RULES 5.1).
 #[derive(Clone, Copy)]
 pub struct Hop {
     pub node: u8,
@@ -65,6 +65,7 @@ pub struct Tables<'a> {
     pub falling: &'a [u8],
 }
 
+// What is asked is a node, a class and a destination, one by one, as RULES 7.5 has them.
 impl<'a> Tables<'a> {
     // Is the label of `next` lower than the node's?
     fn falls(self, node: usize, next: usize) -> bool
@@ -79,7 +80,7 @@ impl<'a> Tables<'a> {
         ensures { result ≡ class_after self.entry.labels.now node class destination next }
     {
         if node == destination {
-            return class as u8;
+            return class as u8; // `as`: 0 or 1
         }
         if class == 1 {
             return 1;

@@ -64,6 +64,7 @@ pub fn labels(t: &[u64], n: usize) -> [u8; MAX_NODES]
     let mut w = nodes::first(m);
     let mut rest = network::restrict(t, w);
     let mut out = [0u8; MAX_NODES];
+    // By number: stage k gives label k + 1.
     for k in 0..m {
         let v = choice(&rest, w);
         // `as`: a label is 64 at most, and `try_from` would have an error that never comes.

@@ -18,7 +18,7 @@ pub fn advance(record: &mut Record, message: usize) -> Result<Answer, Refusal>
     done.answer
 }
 
-// The same by value.
+// The same by value, a promise of its own (`moved_determined`).
 pub fn moved(record: Record, message: usize) -> Stepped
     ensures { result ≡ step_of «record» message }
 {
@@ -38,7 +38,7 @@ pub fn start(record: &mut Record, image: &[u8], list: &[u8]) -> Result<(), Refus
     Ok(())
 }
 
-// The same by value.
+// The same by value, a promise of its own (`started_determined`).
 pub fn started(record: Record, image: &[u8], list: &[u8]) -> Started
     ensures { result ≡ start_of «record» image.now list.now }
 {

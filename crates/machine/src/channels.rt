@@ -1,4 +1,4 @@
-// Channels: their numbers, and who holds one.
+// Channels: their numbers, which all go into 16 bits (`as`: `try_from` would have an error that never comes), and who holds one.
 ghost use Rattle.std.specs.Prelude.{◌≡◌};
 ghost use Rattle.messages.specs.Channels.{hop_channel, injection, consumption};
 ghost use Rattle.messages.specs.Step.{released};

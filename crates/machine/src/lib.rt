@@ -60,7 +60,7 @@ fn ahead<'a>(tables: Tables<'a>, at: Ahead, target: u8) -> Ahead
     let Ahead { want, head, class } = at;
     let last = channels::consumption(target);
     if want == last {
-        let want = ALL_TAKEN as u16;
+        let want = ALL_TAKEN as u16; // `as`: the constant goes into 16 bits
         return Ahead { want, head, class };
     }
     if head == target {
@@ -69,7 +69,7 @@ fn ahead<'a>(tables: Tables<'a>, at: Ahead, target: u8) -> Ahead
     }
     let Ok(Some(hop)) = tables.within(usize::from(head), usize::from(class), usize::from(target))
     else {
-        let want = NO_CHANNEL as u16;
+        let want = NO_CHANNEL as u16; // `as`: likewise
         return Ahead { want, head, class };
     };
     let want = channels::hop(head, hop.node);
@@ -115,6 +115,7 @@ pub fn step_in<'a>(lent: &mut Lent<'a>, span: usize, message: usize) -> Result<A
     }
     let want = usize::from(slices::get(wants, message, 0));
     if want == ALL_TAKEN {
+        // `as`: a message has a number below 256.
         channels::release(holders, span, (message + 1) as u16);
         slices::put(delivered, message, 1);
         *lent.moves = count(*lent.moves);

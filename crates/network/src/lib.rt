@@ -110,7 +110,7 @@ pub fn joined(t: &[u64], w: Set) -> bool
     nodes::is_empty(nodes::difference(w, seen))
 }
 
-// Does striking out v leave the other nodes of w unjoined? The test is made on a copy of the table.
+// Does striking out v leave the other nodes of w unjoined? The test is made on a copy of the table (RULES 12.1).
 pub fn splits(t: Table, w: Set, v: usize) -> bool
     ensures { result ≡ splits max_nodes (edge_of t) (has (members w)) v }
 {

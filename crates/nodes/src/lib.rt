@@ -120,7 +120,7 @@ pub fn lowest(w: Set) -> usize
     w.trailing_zeros() as usize
 }
 
-// The set without its lowest node, in one step: by `without` the walks over members, and with them a build, were slower by 3 to 18 in 100.
+// The set without its lowest node, in one step: by `without` the walks over members, and with them a build, are slower by 3 to 18 in 100.
 pub fn rest(w: Set) -> Set
     ensures { members result ≡ set_of max_nodes (without (has (members w)) (least max_nodes (has (members w)))) }
 {

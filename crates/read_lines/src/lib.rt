@@ -28,7 +28,7 @@ fn found(s: &[u8], line: &[u8], first: usize, second: usize) -> Option<FirstLine
     })
 }
 
-// A line of one number. (One function for K numbers would need a buffer of 4 K bytes, and no array has a length that is reckoned from a parameter.)
+// A line of one number; its second is 0, as `one_in` says. (One function for both lines would ask how many numbers there are before each second step.)
 pub fn one(s: &[u8]) -> Option<FirstLine>
     ensures { result ≡ one_in s.now }
 {

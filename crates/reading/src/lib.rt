@@ -7,7 +7,7 @@ use format::FULL;
 use refusal::Refusal;
 
 // What `read` says of an image: the numbers of nodes and links, and whether it is a full one.
-#[derive(Clone, Copy, Debug, PartialEq, Eq)]
+#[derive(Clone, Copy)]
 pub struct Summary {
     pub nodes: usize,
     pub links: usize,

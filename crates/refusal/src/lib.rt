@@ -58,18 +58,13 @@ impl Refusal {
         ensures { result ≡ place_of self }
     {
         match self {
-            Refusal::Contents => 0,
-            Refusal::Count => 0,
-            Refusal::Shape => 0,
             Refusal::Ends(p) => p,
             Refusal::Order(p) => p,
             Refusal::Crowded(v) => v,
             Refusal::Apart(v) => v,
-            Refusal::Differs => 0,
-            Refusal::Short => 0,
             Refusal::Unknown(p) => p,
-            Refusal::Messages => 0,
             Refusal::Line(i) => i,
+            _ => 0,
         }
     }
 }

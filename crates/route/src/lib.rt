@@ -32,6 +32,7 @@ fn followed(f: &Fabric, s: u8, t: u8, out: &mut Page<'_>)
         falling: &f.falling,
     };
     let mut at = Hop { node: s, class: 0 };
+    // k counts nodes: 2 N hops and one node more at the most, whatever the tables say.
     for k in 0..2 * f.nodes + 1 {
         out.byte(at.node);
         if at.node == t {
@@ -60,7 +61,7 @@ pub fn route(
     }
     let mut nodes = [0u8; ROOM];
     let mut out = Page::new(&mut nodes);
-    // both are nodes, so the casts keep them
+    // `as`: both are nodes, and `try_from` would have an error that never comes.
     followed(&f, source as u8, destination as u8, &mut out);
     results::place(out.laid(), buffer)
 }

@@ -42,7 +42,7 @@ fn enter(from: &mut [u64], v: usize, set: Set)
     }
 }
 
-// The rows turned round: for each node those from which one of these hops leads to it. `ways` may have any length, so v is counted, and read as any node.
+// The rows turned round: for each node those from which one of these hops leads to it. By number: a row is read as every row is, by its node.
 fn into_of(ways: &[u64]) -> Table
     ensures { result ≡ into_of ways.now }
 {
@@ -213,6 +213,7 @@ pub fn tables_of(t: &[u64], labels: &[u8], n: usize) -> Tables
     let ways = Ways::of(t, labels);
     let mut free = [0u8; TABLE];
     let mut falling = [0u8; TABLE];
+    // By number: d is a destination, and its column.
     for d in 0..m {
         let s = ways.search(d);
         place(&mut free, &s.free.entries, m, d);

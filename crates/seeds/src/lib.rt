@@ -33,7 +33,7 @@ pub fn next_seed(seed: u32) -> u32
     wrapping_mul(1664525, seed).wrapping_add(1013904223)
 }
 
-// Where to look first; 0 where there is no message.
+// Where to look first; 0 where there is no message, as `look_at` says. (`as`: the library has no `usize: From<u32>`.)
 pub fn look(seed: u32, messages: usize) -> usize
     ensures { result ≡ look_at seed messages }
 {

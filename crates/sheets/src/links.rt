@@ -19,7 +19,7 @@ pub(crate) fn read(s: &[u8], pairs: &mut Page<'_>) -> Result<(), Refusal>
         let Some(line) = read_lines::two(left) else {
             return Err(Refusal::Line(i));
         };
-        // both numbers are bytes, so the casts keep them
+        // `as`: both numbers are bytes, and `try_from` would have an error that never comes.
         pairs.put(&[line.first as u8, line.second as u8]);
         left = slices::rest(left, line.size);
         i += 1;

@@ -62,6 +62,7 @@ fn report(f: &Fabric, pairs: &[u8], out: &mut Page<'_>)
     let n = f.nodes;
     let size = n * n;
     fabric_line(f, pairs, out);
+    // By number: v is the node that is printed.
     for v in 0..n {
         let row = hops::row(
             slices::front(&f.free, size),

@@ -1,4 +1,4 @@
-// Lent slices, read and stored into at every place: past the end a byte reads as 0, and a store changes nothing.
+// Lent slices, read and stored into at every place: past the end stands what the caller says, for a byte 0, and a store changes nothing.
 #![tactic(auto)]
 
 ghost use Rattle.std.specs.Prelude.{◌≡◌, take, drop, get_or, set};

@@ -1,4 +1,4 @@
--- Any two answers that the promises of `start` and `fresh` allows are equal.
+-- Any two answers that the promises of `start` and `fresh` allow are equal.
 use Rattle.std.specs.Prelude.{Result}
 use Rattle.refusal.specs.declared.Refusal.{Refusal}
 use mathlib.Core.Path.{◌≡◌, sym, ◌∙◌}

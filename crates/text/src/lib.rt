@@ -14,7 +14,7 @@ pub fn number(out: &mut Page<'_>, n: usize)
     ensures laid { page_of out.new ≡ behind (page_of out.old) (decimal_of n) }
 {
     let mut digits = [0u8; 20];
-    // (there is no `u64::from` of a usize)
+    // `as`: the library has no `u64: From<usize>`.
     let k = io::decimal(n as u64, &mut digits);
     out.put(&digits[..k]);
 }

@@ -62,6 +62,7 @@ fn turns_at<F: Fn(usize) -> usize>(links: F) -> usize
     ensures { (count : ℕ → ℕ) → ((v d : ℕ) → F.post links v d → d ≡ count v) → result ≡ sum_to max_nodes (λ v. count v * (count v - 1) / 2) }
 {
     let mut sum: usize = 0;
+    // By number: v is the node that is asked.
     for v in 0..MAX_NODES {
         sum += choose_two(links(v));
     }
