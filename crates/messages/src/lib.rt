@@ -27,7 +27,7 @@ pub const NO_CHANNEL: usize = MAX_CHANNELS + 1;
 // What the machine knows: the network's labels and rows, and of each message its destination, the channel that it wants next, the node where its head is and
 // its class (0 free, 1 falling) once it has taken that, and whether it is delivered (1). A channel's holder is 0 where it is free, else the message's number
 // plus 1.
-// The arrays stay apart and marks are bytes: `step_in` and `is_ready` promise for arrays of any length, each its own, and for any mark. Numbers stand for "none",
+// The arrays stay apart and marks are bytes: `step_in` and `is_ready` promise for arrays of any length, each its own, and for any mark. Numbers stand for none,
 // since demand 3 speaks of them (`Says`, `Tells`, `MoveFault`).
 #[derive(Clone, Copy)]
 pub struct Record {
