@@ -30,7 +30,7 @@ impl<'a> Cabling<'a> {
         }
     }
 
-    // Its second end.
+    // Its second end: a function of its own, since the rules speak of a and of b.
     fn high_end(&self, p: usize) -> usize
         ensures { result ≡ high_end self.now.pairs.now p }
     {

@@ -18,8 +18,8 @@ pub struct Drained {
     pub record: Record,
 }
 
-// One pick, in the record where it stands: the next seed. A message that is delivered gives back only channels below `span`. (`records::step` lends the same parts:
-// no clause says what a record ends as whose parts a function hands on in a struct.)
+// One pick, in the record where it stands: the next seed. A message that is delivered gives back only channels below `span`. (`records::step` lends the
+// same parts: no clause says what a record ends as whose parts a function hands on in a struct.)
 fn pick(record: &mut Record, seed: u32, span: usize) -> u32
     ensures { PicksIn span seed «record».old result «record».new }
 {

@@ -10,7 +10,7 @@ use nodes::MAX_NODES;
 use refusal::Refusal;
 use rows::TABLE;
 
-// Labels and rows stand at the front of their arrays, zeros behind.
+// Labels and rows stand at the front of their arrays, zeros behind: memory is fixed, so the arrays are of the largest size.
 #[derive(Clone, Copy)]
 pub struct Fabric {
     pub nodes: usize,

@@ -13,7 +13,7 @@ use refusal::Refusal;
 // How long the line of a refusal is at the most.
 pub const LONGEST_REFUSAL: usize = 7 + 2 * (1 + 21) + 1;
 
-// A further field: a space, and the number.
+// A further field: a space, and the number. No Display: what is promised is each byte that is laid, of which Display says nothing.
 pub fn field(out: &mut Page<'_>, n: usize)
     ensures same_buffer { out.new.bytes.ghost_name ≡ out.old.bytes.ghost_name }
     ensures laid { page_of out.new ≡ with_field (page_of out.old) n }

@@ -7,7 +7,7 @@ ghost use Rattle.machine.specs.InPlace.{given_back};
 use messages::NODE_CHANNELS;
 use nodes::MAX_NODES;
 
-// The channel of the hop from a to b.
+// The channel of the hop from a to b. (A function for each kind of channel, as RULES 8.1 names them.)
 pub fn hop(a: u8, b: u8) -> u16
     ensures { result ≡ hop_channel a b }
 {

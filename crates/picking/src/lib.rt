@@ -29,7 +29,7 @@ pub struct PickedIn {
     pub message: usize,
 }
 
-// The first message that is ready from `look` on, going round; `look` where none is, as `chosen_by` says.
+// The first message that is ready from `look` on, going round; `look` where none is, as `chosen_by` says. It is lent what `is_ready` is.
 fn choice(messages: usize, wants: &[u16], delivered: &[u8], holders: &[u16], look: usize) -> usize
     requires { look ≤ max_messages }
     ensures { result ≡ chosen_by (min messages max_messages) (ready_at wants.now delivered.now holders.now) look }

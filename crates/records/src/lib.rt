@@ -73,7 +73,7 @@ fn injections(list: &[u8]) -> [u16; MAX_MESSAGES]
     wants
 }
 
-// The record that a fresh start fills.
+// The record that a fresh start fills. Its parts come one by one, as `begun_of` takes them.
 pub fn begun(
     n: usize,
     labels: [u8; MAX_NODES],

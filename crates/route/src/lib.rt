@@ -25,6 +25,7 @@ fn followed(f: &Fabric, s: u8, t: u8, out: &mut Page<'_>)
     ensures same_buffer { out.new.bytes.ghost_name ≡ out.old.bytes.ghost_name }
     ensures laid { (b : List ℕ) → page_of out.old ≡ page b 0 → f.now.nodes + f.now.nodes < length b → Lays b (page_of out.new) (followed f.now s t) }
 {
+    // Lent field by field, here and in `findings`: a function that lends them would need a clause for each.
     let tables = Tables {
         nodes: f.nodes,
         labels: &f.labels,

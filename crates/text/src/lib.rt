@@ -19,7 +19,7 @@ pub fn number(out: &mut Page<'_>, n: usize)
     out.put(&digits[..k]);
 }
 
-// The number that a text begins with: digits are read until what they make is 100 or more. 0 where there is none.
+// The number that a text begins with: digits are read until what they make is 100 or more. 0 where there is none, as `number_in` says.
 pub fn number_in(text: &[u8]) -> usize
     ensures { result ≡ number_in text.now }
 {
