@@ -18,6 +18,7 @@ pub fn cases() -> Vec<Case> {
         }
     }
     cases.extend(before_any_start());
+    cases.extend(cut_short());
     cases.extend(long_images().iter().map(|image| refused_between(image)));
     let case = |input| Case::new("restarts", "calls", input);
     cases.into_iter().map(case).collect()
@@ -93,6 +94,16 @@ fn before_any_start() -> Vec<Vec<u8>> {
     let started = Round::new(&image, &spread(4, 4), &passes(4, 9));
     let rounds = [refused, odd, started];
     (1..=3).map(|count| rounds_call(&rounds[..count])).collect()
+}
+
+/// A whole round, and behind it another that is cut short at each place.
+fn cut_short() -> Vec<Vec<u8>> {
+    let image = path(2).links_image();
+    let rounds = [Round::new(&image, &[], &[]), Round::new(&[], &[], &[0, 1])];
+    let first = rounds_call(&rounds[..1]).len();
+    let both = rounds_call(&rounds);
+    let cuts = first + 1..both.len();
+    cuts.map(|size| both[..size].to_vec()).collect()
 }
 
 /// A start that is refused for its image, between moves of a ring's messages.
