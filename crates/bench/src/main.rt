@@ -17,6 +17,7 @@ fn builds(links: &[u8], repeats: u32) -> usize {
 // Drains so many times, each with its own number as the seed, and answers the moves of the last one.
 fn drains(image: &[u8], list: &[u8], repeats: u32) -> usize {
     let mut last = records::blank();
+    // By number: it is the seed.
     for seed in 0..repeats {
         last = draining::drain(last, image, list, seed).record;
     }
@@ -41,6 +42,6 @@ fn main() {
     let mut input = io::large_buffer();
     let n = io::read_full(0, &mut input);
     let last = answer(&input[..n]).unwrap_or(0);
-    io::print_decimal(1, last as u64);
+    io::print_decimal(1, last as u64); // `as`: the library has no `u64: From<usize>`
     io::write_all(1, b"\n");
 }

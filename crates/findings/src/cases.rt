@@ -19,6 +19,7 @@ fn tree(n: u8, in_a_path: bool, out: &mut Page<'_>)
     requires { 0 < n }
 {
     head(n, usize::from(n) - 1, out);
+    // By number: b is the node that is linked to one below it.
     for b in 1..n {
         let below = if in_a_path { b - 1 } else { 0 };
         out.put(&[below, b]);
@@ -28,6 +29,7 @@ fn tree(n: u8, in_a_path: bool, out: &mut Page<'_>)
 // 513 pairs in rising order: from node 0 to nodes 32 to 63, from node 1 to the same, .. (`as`: all are below 64.)
 fn many(out: &mut Page<'_>) {
     head(64, 513, out);
+    // By number: pair k is made up of it.
     for k in 0..513usize {
         out.put(&[(k / 32) as u8, (32 + k % 32) as u8]);
     }
