@@ -13,7 +13,7 @@ use Rattle.fabric.specs.Fabric.{fabric_of}
 use Rattle.format.specs.Contents.{nodes_in}
 use Rattle.image.specs.Image.{cabling_in}
 use Rattle.nodes.specs.Limits.{max_nodes}
-use Rattle.messages.specs.Sizes.{node_channels}
+use Rattle.messages.specs.Sizes.{max_messages, node_channels}
 use Rattle.messages.specs.declared.Record.{Record}
 use Rattle.messages.specs.Fresh.{source_in, target_in, begun_of}
 use Rattle.messages.specs.Runs.{Listed, messages_in, route_in, all_moves}
@@ -77,6 +77,10 @@ module _ (b list : List ℕ) (fine : start_fault b list ≡ Ok tt) where
 
     pub running_all : all_delivered last ≡ true → last ≡ end_of b list seed
     running_all d = sym (after-done _ next last d) ∙ i.ends
+
+    -- the record has a mark for each of 256 messages
+    pub running_marks : length last.delivered ≡ max_messages
+    running_marks = (reached_state tabled listed i.run).1.kept.delivered_size
 
     running_free : (span : ℕ) → span ≡ node_channels * min (fresh_of b list).nodes max_nodes → FreeFrom span last.holders
     unfolding fresh_of begun_of fabric_of
