@@ -2,8 +2,7 @@
 #![tactic(auto)]
 
 ghost use Rattle.std.specs.Prelude.{◌≡◌};
-ghost use Rattle.start.specs.Start.{start_fault, fresh_by};
-ghost use Rattle.draining.specs.Drained.{PicksIn, end_of, drain_of};
+ghost use Rattle.draining.specs.Drained.{PicksIn, drain_of};
 
 use hops::Tables;
 use machine::Lent;
@@ -43,31 +42,26 @@ fn pick(record: &mut Record, seed: u32, span: usize) -> u32
     picked.seed
 }
 
-// The record once every message is delivered, or the first fault of its start. No channel is held but those of the N nodes, so those behind are not looked at.
-fn end(image: &[u8], list: &[u8], seed: u32) -> Result<Record, Refusal>
-    ensures { result ≡ fresh_by (start_fault image.now list.now) (end_of image.now list.now seed) }
+// Starts the machine, and moves messages until every one is delivered. No channel is held but those of the N nodes, so those behind are not looked at.
+pub fn drain(record: Record, image: &[u8], list: &[u8], seed: u32) -> Drained
+    ensures { result ≡ drain_of «record» image.now list.now seed }
 {
-    let mut last = start::fresh(image, list)?;
+    let mut last = match start::fresh(image, list) {
+        Ok(fresh) => fresh,
+        Err(r) => {
+            return Drained {
+                verdict: Err(r),
+                record,
+            };
+        }
+    };
     let span = NODE_CHANNELS * nodes::capped(last.nodes);
     let mut next = seed;
     while !machine::all_delivered_in(last.messages, &last.delivered) {
         next = pick(&mut last, next, span);
     }
-    Ok(last)
-}
-
-// Starts the machine, and moves messages until every one is delivered.
-pub fn drain(record: Record, image: &[u8], list: &[u8], seed: u32) -> Drained
-    ensures { result ≡ drain_of «record» image.now list.now seed }
-{
-    match end(image, list, seed) {
-        Ok(last) => Drained {
-            verdict: Ok(()),
-            record: last,
-        },
-        Err(r) => Drained {
-            verdict: Err(r),
-            record,
-        },
+    Drained {
+        verdict: Ok(()),
+        record: last,
     }
 }
