@@ -9,8 +9,9 @@ ghost use Rattle.machine.specs.Lent.{made_of, StaysLent};
 ghost use Rattle.picking.specs.Order.{chosen_by, pick_of};
 ghost use Rattle.picking.specs.InPlace.{picked, pick_in};
 
+use hops::Tables;
 use machine::Lent;
-use messages::Record;
+use messages::{MAX_CHANNELS, Record};
 
 // One move of a drain: the seed, the message where it looked first, the one that moved, and the record after it.
 #[derive(Clone, Copy)]
@@ -78,22 +79,29 @@ pub fn pick_in<'a>(seed: u32, lent: &mut Lent<'a>, span: usize) -> PickedIn
 pub fn pick(seed: u32, record: Record) -> Picked
     ensures { result ≡ pick_of seed «record» }
 {
-    let PickedIn {
-        seed,
-        look,
-        message,
-    } = found(
-        seed,
-        record.messages,
-        &record.wants,
-        &record.delivered,
-        &record.holders,
-    );
-    let moved = records::step(record, message);
+    let mut after = record;
+    let whole = &mut after;
+    let mut lent = Lent {
+        tables: Tables {
+            nodes: whole.nodes,
+            labels: &whole.labels,
+            free: &whole.free,
+            falling: &whole.falling,
+        },
+        messages: whole.messages,
+        moves: &mut whole.moves,
+        targets: &whole.targets,
+        heads: &mut whole.heads,
+        classes: &mut whole.classes,
+        wants: &mut whole.wants,
+        delivered: &mut whole.delivered,
+        holders: &mut whole.holders,
+    };
+    let picked = pick_in(seed, &mut lent, MAX_CHANNELS);
     Picked {
-        seed,
-        look,
-        message,
-        record: moved.record,
+        seed: picked.seed,
+        look: picked.look,
+        message: picked.message,
+        record: after,
     }
 }
