@@ -50,7 +50,10 @@ fn tell(name: &[u8], image: &[u8]) {
         Ok(()) => {
             io::write_all(1, b"accepted\n");
         }
-        Err(r) => programs::say(|out| lines::refusal_line(r, out)),
+        Err(r) => programs::say(
+            &mut [0; lines::LONGEST_REFUSAL],
+            |out| lines::refusal_line(r, out),
+        ),
     }
 }
 
@@ -87,7 +90,10 @@ fn tell_no_messages() {
 // What Cable prints for a sheet.
 fn tell_sheet(name: &[u8], sheet: &[u8]) {
     io::write_all(1, name);
-    programs::say(|out| sheeted::cable(sheet, out));
+    programs::say(
+        &mut [0; sheeted::LONGEST_CABLE],
+        |out| sheeted::cable(sheet, out),
+    );
 }
 
 fn tell_sheets() {

@@ -33,21 +33,18 @@ pub struct Network<'a> {
 }
 
 // A word and numbers.
-fn tell_fields(word: &[u8], bytes: &[u8]) {
+fn tell_fields<N: Copy + Into<usize>>(word: &[u8], numbers: &[N]) {
     let mut buffer = [0u8; ROOM];
     let mut out = Page::new(&mut buffer);
     out.put(word);
-    lines::fields(&mut out, bytes);
+    lines::fields(&mut out, numbers);
     io::write_all(1, out.laid());
 }
 
-// A line of them.
+// A line of them: closed too where the page has no room for all of it.
 fn tell_line<N: Copy + Into<usize>>(word: &[u8], numbers: &[N]) {
-    let mut buffer = [0u8; ROOM];
-    let mut out = Page::new(&mut buffer);
-    out.put(word);
-    lines::rest(&mut out, numbers);
-    io::write_all(1, out.laid());
+    tell_fields(word, numbers);
+    io::write_all(1, b"\n");
 }
 
 fn tell_image(image: &[u8], listed: &[u8]) {
@@ -80,6 +77,9 @@ fn tell_hop(asked: Asked, answer: Result<Option<Hop>, Refusal>) {
 // Each hop that is listed.
 fn tell_hops(image: &[u8], listed: &[Asked]) {
     let Ok(f) = image::open(image) else {
+        for &asked in listed {
+            tell_hop(asked, Err(Refusal::Unknown(0)));
+        }
         return;
     };
     let tables = Tables {

@@ -5,18 +5,17 @@ use refusal::Refusal;
 // More than any input and any line here takes.
 pub const ROOM: usize = 2048;
 
-// Prints what is written into a buffer that has room for the longest.
-pub(crate) fn say<F: FnOnce(&mut [u8]) -> Result<usize, Refusal>>(write: F)
+// Prints what is written into a lent buffer, which has room for the longest.
+pub(crate) fn say<F: FnOnce(&mut [u8]) -> Result<usize, Refusal>>(out: &mut [u8], write: F)
     requires { F.IsAlwaysCallable write }
 {
-    let mut out = io::large_buffer();
-    let written = write(&mut out);
-    lines::say(written, &out);
+    let written = write(out);
+    lines::say(written, out);
 }
 
 // What Show prints for this image.
 pub fn say_shown(image: &[u8]) {
-    say(|out| shown::output(image, out));
+    say(&mut [0; shown::LONGEST], |out| shown::output(image, out));
 }
 
 // RULES 10.4: "an image's length (16 bits, low byte first), the image, a seed of 32 bits (low byte first) and pairs", for seed 0. (`as`: 16 bits are left of the length.)
@@ -34,5 +33,8 @@ pub fn tell_drained(image: &[u8], messages: &[u8]) {
     let mut input = Page::new(&mut buffer);
     for_drain(image, messages, &mut input);
     let input = input.laid();
-    say(|out| drained::output(input, out));
+    say(
+        &mut [0; drained::LONGEST],
+        |out| drained::output(input, out),
+    );
 }
