@@ -5,6 +5,9 @@ use cabling::Cabling;
 use reading::Summary;
 use refusal::Refusal;
 
+// Room for any buffer. `main` has it, so that it stands once on the stack.
+pub type Space = [u8; format::HALF_WORD];
+
 // Before the call byte i is 7 i + 13, its low byte.
 fn fill(buffer: &mut [u8]) {
     let mut byte: u8 = 13;
@@ -14,11 +17,10 @@ fn fill(buffer: &mut [u8]) {
     }
 }
 
-// Lends the call a buffer of so many bytes, and prints the whole of it afterwards.
-fn lend<F: FnOnce(&mut [u8])>(size: u16, call: F)
+// Lends the call so many bytes of the space as its buffer, and prints the whole of it afterwards.
+fn lend<F: FnOnce(&mut [u8])>(space: &mut Space, size: u16, call: F)
     requires { F.IsAlwaysCallable call }
 {
-    let mut space = io::large_buffer();
     let buffer = &mut space[..usize::from(size)];
     fill(buffer);
     call(buffer);
@@ -26,23 +28,23 @@ fn lend<F: FnOnce(&mut [u8])>(size: u16, call: F)
 }
 
 // A call of an image or a sheet alone.
-fn alone<F: Fn(&[u8], &mut [u8])>(mut args: Arguments, call: F) -> Option<()>
+fn alone<F: Fn(&[u8], &mut [u8])>(mut args: Arguments, space: &mut Space, call: F) -> Option<()>
     requires { F.IsAlwaysCallable call }
 {
     let input = args.bytes()?;
     let size = args.half()?;
     args.end()?;
-    lend(size, |buffer| call(input, buffer));
+    lend(space, size, |buffer| call(input, buffer));
     Some(())
 }
 
-pub fn route(mut args: Arguments) -> Option<()> {
+pub fn route(mut args: Arguments, space: &mut Space) -> Option<()> {
     let image = args.bytes()?;
     let source = args.number()?;
     let destination = args.number()?;
     let size = args.half()?;
     args.end()?;
-    lend(size, |buffer| {
+    lend(space, size, |buffer| {
         answers::written(b"route", route::route(image, source, destination, buffer))
     });
     Some(())
@@ -55,40 +57,41 @@ fn read_line(answer: Result<Summary, Refusal>) {
     }
 }
 
-pub fn read(args: Arguments) -> Option<()> {
+pub fn read(args: Arguments, space: &mut Space) -> Option<()> {
     alone(
         args,
+        space,
         |image, buffer| read_line(reading::read(image, buffer)),
     )
 }
 
-pub fn write(mut args: Arguments) -> Option<()> {
+pub fn write(mut args: Arguments, space: &mut Space) -> Option<()> {
     let nodes = args.number()?;
     let full = args.number()? != 0;
     let pairs = args.bytes()?;
     let size = args.half()?;
     args.end()?;
     let cabling = Cabling { nodes, pairs };
-    lend(size, |buffer| {
+    lend(space, size, |buffer| {
         answers::written(b"wrote", writing::write(&cabling, full, buffer))
     });
     Some(())
 }
 
-pub fn build(args: Arguments) -> Option<()> {
-    alone(args, |image, buffer| {
+pub fn build(args: Arguments, space: &mut Space) -> Option<()> {
+    alone(args, space, |image, buffer| {
         answers::written(b"built", writing::build(image, buffer))
     })
 }
 
-pub fn cable(args: Arguments) -> Option<()> {
-    alone(args, |sheet, buffer| {
+pub fn cable(args: Arguments, space: &mut Space) -> Option<()> {
+    alone(args, space, |sheet, buffer| {
         answers::written(b"cabled", sheets::cable(sheet, buffer))
     })
 }
 
-pub fn sheet(args: Arguments) -> Option<()> {
-    alone(args, |image, buffer| {
+pub fn sheet(args: Arguments, space: &mut Space) -> Option<()> {
+    alone(args, space, |image, buffer| {
         answers::written(b"sheet", sheets::sheet(image, buffer))
     })
 }

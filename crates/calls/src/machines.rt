@@ -65,6 +65,16 @@ fn stepped(record: &mut Record, named: &[u8]) {
     state(record);
 }
 
+// The same by value, so that this form is compared too.
+fn moved(mut record: Record, named: &[u8]) {
+    for message in named.chunks_exact(2) {
+        let moved = lent::moved(record, format::number_at(message, 0));
+        record = moved.record;
+        answers::step(moved.answer);
+    }
+    state(&record);
+}
+
 // A round: a start's image and list, and the numbers of messages that move behind it.
 #[derive(Clone, Copy)]
 struct Round<'a> {
@@ -135,7 +145,7 @@ pub fn moves(mut args: Arguments) -> Option<()> {
     let mut record = records::begun(nodes, labels, free, falling, list);
     record.classes = classes;
     state(&record);
-    stepped(&mut record, named);
+    moved(record, named);
     Some(())
 }
 
@@ -153,13 +163,13 @@ fn turned(mut record: Record, mut seed: u32) {
     answers::line(b"drained", &[record.messages, record.moves]);
 }
 
-// A drain's input, as the program reads it: an image's length in 16 bits, the image, the seed, pairs.
+// A drain's input, as the program reads it: an image's length in 16 bits, the image, the seed, pairs. Its start is by value, for the same reason.
 fn drain(mut input: Arguments) -> Result<(), Refusal> {
     let image = input.short_bytes().ok_or(Refusal::Contents)?;
     let seed = input.double().ok_or(Refusal::Contents)?;
-    let mut record = records::blank();
-    lent::start(&mut record, image, input.rest())?;
-    turned(record, seed);
+    let started = lent::started(records::blank(), image, input.rest());
+    started.verdict?;
+    turned(started.record, seed);
     Ok(())
 }
 
