@@ -39,7 +39,10 @@ impl<'a> Page<'a> {
         ensures same_buffer { self.new.bytes.ghost_name ≡ self.old.bytes.ghost_name }
         ensures laid { page_of self.new ≡ behind (page_of self.old) (b ∷ []) }
     {
-        self.put(&[b]);
+        if self.at < self.bytes.len() {
+            self.bytes[self.at] = b;
+            self.at += 1;
+        }
     }
 
     // What is laid.
