@@ -52,7 +52,7 @@ fn choose_two(d: usize) -> usize
     requires { d ≤ max_nodes }
     ensures { result ≡ d * (d - 1) / 2 }
 {
-    d * d.saturating_sub(1) / 2
+    if d == 0 { 0 } else { d * (d - 1) / 2 }
 }
 
 // The sum of d(d-1)/2 over all nodes, d being the number of links that is counted at each.
