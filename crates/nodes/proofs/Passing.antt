@@ -7,7 +7,7 @@ use Rattle.finite.specs.Sets.{has, without}
 use Rattle.finite.proofs.Truth.{iff, refute}
 use Rattle.finite.proofs.Sets.{has-lt, without_in, without-ne, in_without}
 use Rattle.nodes.specs.Limits.{max_nodes}
-use Rattle.nodes.proofs.Words.{has_all, lowest_in, word_lt}
+use Rattle.nodes.proofs.Words.{has_all, lowest_in, next-less, word_lt}
 use Rattle.nodes.specs.InOrder.{PassesLowest}
 
 pub record Pass (left v next : ℕ) : Type 0 where
@@ -17,6 +17,7 @@ pub record Pass (left v next : ℕ) : Type 0 where
   pub inside : (k : ℕ) → has next k ≡ true → has left k ≡ true
   pub kept : (k : ℕ) → (k ≡ v → ⊥) → has next k ≡ has left k
   pub word : next < 2 ^ max_nodes
+  pub less : next < left
 
 -- from a step that gives a member
 pub pass : {left v next : ℕ} {r : Option ℕ} → left < 2 ^ max_nodes → PassesLowest left r next → r ≡ Some v → Pass left v next
@@ -27,6 +28,7 @@ pass {left} {v} {next} l step given = record {
   inside = λ k t. without_in (has left) v k (sym (at k) ∙ t);
   kept = λ k d. at k ∙ iff _ _ (without_in (has left) v k) (λ t. in_without (has left) t (λ e. d (sym e)));
   word = word_lt max_nodes _ s.2;
+  less = next-less max_nodes l s.0 s.1 s.2;
 }
   where
     s : PassesLowest left (Some v) next

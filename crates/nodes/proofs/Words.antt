@@ -63,7 +63,14 @@ member-rest n w v h t =
     let e = set_of-has n w h in
     omega arith
 
--- so without what is no member it is the same
+-- so without a member it is less, and without what is no member it is the same
+pub without-less : (n w v : ℕ) → w < 2 ^ n → has w v ≡ true → set_of n (without (has w) v) < w
+without-less n w v h t =
+    let o = one_set n v (has-lt n w v h t) in
+    let z = pow_pos v in
+    let e = member-rest n w v h t in
+    omega arith
+
 pub without-none : (n w v : ℕ) → w < 2 ^ n → has w v ≡ false → w ≡ set_of n (without (has w) v)
 without-none n w v h f = set_ext n w (without (has w) v) h (λ u l. sym (without_other (has w) v u f))
 
@@ -92,6 +99,12 @@ pub rest-fewer : (n : ℕ) {w r : ℕ} → w < 2 ^ n → (w ≡ 0 → ⊥) → r
 rest-fewer n {w} {r} h z d =
     let k = count-without n (has w) (least n (has w)) (lowest-lt n w h z) (lowest_in n w h z) in
     let s = ap (λ (x : ℕ). count n (has x)) d ∙ size-set_of n (without (has w) (least n (has w))) in
+    omega arith
+
+-- and is a smaller number
+pub next-less : (n : ℕ) {w v r : ℕ} → w < 2 ^ n → (w ≡ 0 → ⊥) → v ≡ least n (has w) → r ≡ set_of n (without (has w) v) → r < w
+next-less n {w} {v} h z e d =
+    let k = without-less n w v h (ap (has w) e ∙ lowest_in n w h z) in
     omega arith
 
 -- the rest of a set is the set without its lowest member, under whichever name the code has that one
