@@ -39,7 +39,7 @@ pub fitted_none : (b : List ℕ) (k : ℕ) → Fitted b k (2 + 6 * k) 0
 unfolding all
 fitted_none b k = record { at = sym (begin-none b k); fit = refl; low = omega arith }
 
-module _ {b : List ℕ} {k begin i : ℕ} {e : Entry} (f : Fitted b k begin i) (found : Some e ≡ entry_of b i) where
+module _ (b : List ℕ) (i : ℕ) {e : Entry} (found : Some e ≡ entry_of b i) where
   stored : e ≡ stored_at b i
   stored = (entry-stored b i found).0
 
@@ -51,14 +51,15 @@ module _ {b : List ℕ} {k begin i : ℕ} {e : Entry} (f : Fitted b k begin i) (
       let high = bytes (6 + 6 * i + 1) in
       omega arith
 
+module _ {b : List ℕ} {k begin i : ℕ} {e : Entry} (f : Fitted b k begin i) (found : Some e ≡ entry_of b i) where
   pub fitted_more : AllBytes b → (e.kind ≡ i + 1) × (e.second ≡ 0) × (e.offset ≡ begin) → Fitted b k (begin + e.length) (i + 1)
   fitted_more bytes fits =
-      let s = stored in
+      let s = stored b i found in
       let kind = ap (λ (x : Entry). x.kind) s in
       let second = ap (λ (x : Entry). x.second) s in
       let offset = ap (λ (x : Entry). x.offset) s in
       let l = ap (λ (x : Entry). x.length) s in
-      let size = length-low bytes in
+      let size = length-low b i found bytes in
       let more = begin-more b k i in
       let at = f.at in
       let low = f.low in

@@ -1,3 +1,4 @@
 pub mod Whole
 pub mod Fitted
+pub mod Meet
 pub mod Determined

@@ -50,7 +50,7 @@ overflow_add-begin-in-loop-i c =
     let inv = c.loop-i.invariant in
     let low = inv.fitted.low in
     let few = inv.few in
-    let size = length-low inv.fitted (sym c.in-Some.is ∙ found (goal.at.overflow_add-begin-in-loop-i c).After-step) (λ i. (c.type_inv.image i).fits) in
+    let size = length-low _ _ (sym c.in-Some.is ∙ found (goal.at.overflow_add-begin-in-loop-i c).After-step) (λ i. (c.type_inv.image i).fits) in
     omega arith
 
 pub loop-i-preserved : goal.loop-i-preserved
