@@ -42,7 +42,6 @@ pub fn rest(s: &[u8], n: usize) -> &[u8]
 }
 
 // Are the two the same bytes?
-#[tactic(auto, using(crate::proofs::Same::equal_alike))]
 pub fn same_bytes(a: &[u8], b: &[u8]) -> bool
     ensures { result ≡ alike a.now b.now }
 {
